@@ -1,0 +1,11 @@
+use borrow.Author.Needs.{needs}
+use native.Mathlib.Omega.{arith}
+use Prim.Native.Nat.{_≤_}
+use Rattle.femudoko.proofs.main.Needs as need
+
+pub part-write-all-end : need.part-write-all-end
+part-write-all-end c =
+    let e = c .in-Ok .ensures tt in
+    let line = e .written (e .some-line .0) (e .some-line .1) in
+    let within : c .in-Ok .end ≤ 600 = omega (arith, line .count, line .room) in
+    search needs

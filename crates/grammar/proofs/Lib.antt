@@ -1,0 +1,5 @@
+pub mod Counts
+pub mod Walks
+pub mod Rests
+pub mod Begins
+pub mod Outcome

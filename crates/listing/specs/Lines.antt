@@ -1,0 +1,12 @@
+-- The lines that are printed, the byte 10 at their end included.
+--   refusalLine n p      a refusal's line: `!`, its number, a space, its place
+--   ruleLine text        a rule's line
+use Prim.Native.Nat.{ℕ}
+use mathlib.Core.List.{List, [], _∷_, _++_}
+use Rattle.std.specs.Written.{decimal}
+
+abbrev pub refusalLine : ℕ → ℕ → List ℕ
+refusalLine n p = 33 ∷ (decimal n ++ 32 ∷ (decimal p ++ 10 ∷ []))
+
+abbrev pub ruleLine : List ℕ → List ℕ
+ruleLine text = text ++ 10 ∷ []
