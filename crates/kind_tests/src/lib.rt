@@ -1,0 +1,3 @@
+// Worked values of the kinds, their texts and the maps between them.
+#[cfg(test)]
+mod tests;

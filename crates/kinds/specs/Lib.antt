@@ -1,0 +1,11 @@
+pub mod Algebra
+pub mod Two
+pub mod TwoLaws
+pub mod Three
+pub mod ThreeLaws
+pub mod Zones
+pub mod ZonesLaws
+pub mod Margin
+pub mod MarginLaws
+pub mod Pair
+pub mod PairLaws

@@ -1,0 +1,4 @@
+pub mod AtZone
+pub mod Carries
+pub mod IntoThree
+pub mod Sign
