@@ -1,0 +1,4 @@
+pub mod Depth
+pub mod Taken
+pub mod Rests
+pub mod Begins
