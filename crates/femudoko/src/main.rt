@@ -3,13 +3,11 @@ ghost use Prim.Native.Nat.{_≤_};
 ghost use lib.ListN.{length};
 ghost use Rattle.std.specs.Vec.{made};
 use listing::MAX_INPUT;
+use listing::MAX_LINE;
 use listing::answer;
 use std::io;
 use std::io::Read;
 use std::io::Write;
-
-// Room for the longest line that answers an input.
-const MAX_LINE: usize = 600;
 
 // Fills the buffer from standard input, and answers how many bytes came.
 fn fill(rt: &LibcRuntime, buffer: &mut [u8]) -> io::Result<usize>
@@ -35,8 +33,8 @@ fn main(rt: LibcRuntime) -> io::Result<()> {
     let mut input = vec![in rt.alloc(); 0u8; MAX_INPUT + 1]?;
     let len = fill(&rt, &mut input)?;
     let mut line = [0u8; MAX_LINE];
-    let Ok(end) = answer(&input[0..len], &mut line) else {
-        return Ok(());
-    };
-    rt.stdout().write_all(&line[0..end])
+    match answer(&input[0..len], &mut line) {
+        Ok(end) => rt.stdout().write_all(&line[0..end]),
+        Err(_) => unreachable(),
+    }
 }

@@ -1,9 +1,9 @@
 -- A machine that takes a text's tokens one by one: a step between the reader's functions and the grammar.
--- No public promise speaks of it.
+-- No promise about reading or writing a rule speaks of it.
 --   Item           what a piece of a text is: a token at a place, or a refusal
 --   Context        what stands around the part that is read now
 --   State          a unit is wanted, a rule's first unit stands, or a whole rule stands
---   step, run      one token; all of them
+--   step, runs     one token; all of them
 use Prim.Native.Nat.{ℕ, _+_, suc}
 use mathlib.Core.Bool.{Bool, cond}
 use mathlib.Core.List.{List, [], _∷_}

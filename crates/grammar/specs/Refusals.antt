@@ -22,7 +22,8 @@ pub record Accepts (text : List ℕ) (t : Tree) : Type 0 where
   pub reads : IsRule in-depth tokens t
   pub few : words tokens ≤ max-words
 
--- the tokens begin a rule within the limits: none of them earns a refusal
+-- the tokens begin a rule within the limit of depth, however long, and are not too many words: none of them earns a
+-- refusal
 pub record Clean (ts : List Token) : Type 0 where
   pub begins : Begins in-depth ts
   pub few : words ts ≤ max-words

@@ -2,9 +2,6 @@
 ghost use mathlib.Core.Path.{_≡_};
 ghost use Rattle.grammar.specs.Faults.{number, place};
 use words::Word;
-use words::WordDebug;
-use words::WordEq;
-use words::WordPartialEq;
 
 // The longest text that is read, in bytes.
 pub const MAX_TEXT: usize = 1024;
@@ -16,7 +13,7 @@ pub const MAX_DEPTH: usize = 16;
 pub const MAX_WORDS: usize = 64;
 
 // A token of a rule text.
-#[derive(Clone, Copy, PartialEq, Eq, Debug)]
+#[derive(Clone, Copy)]
 pub enum Token {
     Open,
     Close,
@@ -25,14 +22,14 @@ pub enum Token {
 
 // A node of a rule: its word and, for a two-sided word, the place of its left operand, else 0.
 // The right or only operand is the node just before.
-#[derive(Clone, Copy, PartialEq, Eq, Debug)]
+#[derive(Clone, Copy)]
 pub struct Node {
     pub word: Word,
     pub left: u8,
 }
 
 // Why a text is no rule, and where.
-#[derive(Clone, Copy, PartialEq, Eq, Debug)]
+#[derive(Clone, Copy)]
 pub enum TextFault {
     TooLong,
     BadByte(usize),

@@ -1,8 +1,9 @@
 -- What the lexer answers.
 --   fits text          whether the text is short enough
 --   textOf l           its text
---   left l             the items that are left of its text
---   Next xs r ys       with the items xs left, it answers r and leaves the items ys
+--   pieces l           the pieces that are left of its text
+--   Answers xs r ys    with the pieces xs left, it answers r and leaves the pieces ys
+--   left l, Next xs r ys     the same by the items that the machine takes: a step for the reader's proof
 use mathlib.Core.List.{List, [], _∷_}
 use mathlib.Core.Path.{_≡_}
 use mathlib.Core.Bool.{cond}
@@ -15,9 +16,12 @@ use Rattle.std.specs.declared.option.Option.{Option}
 use Rattle.std.specs.declared.option.Option.the-variants.{Some, None}
 use Rattle.std.specs.declared.result.Result.{Result}
 use Rattle.std.specs.declared.result.Result.the-variants.{Ok, Err}
+use Rattle.words.specs.Words.{Names}
+use Rattle.words.specs.declared.Word.{Word}
+use Rattle.grammar.specs.Lexemes.{Lexeme, run, stray, Placed as Piece, lexemes, Means}
 use Rattle.grammar.specs.Machine.{Item, token, bad, items}
 use Rattle.grammar.specs.declared.TextFault.{TextFault}
-use Rattle.grammar.specs.declared.TextFault.the-variants.{TooLong}
+use Rattle.grammar.specs.declared.TextFault.the-variants.{TooLong, BadByte, UnknownWord}
 use Rattle.lexer.specs.declared.lexer.Lexer.{Lexer}
 use Rattle.lexer.specs.declared.Placed.{Placed}
 
@@ -32,7 +36,22 @@ textOf l = now (l .text)
 abbrev pub left : Lexer → List Item
 left l = items (l .at) (drop (l .at) (textOf l))
 
--- nothing at the end; else the first item, a token or a refusal
+-- the pieces that are left of its text
+abbrev pub pieces : Lexer → List Piece
+pieces l = lexemes (l .at) (drop (l .at) (textOf l))
+
+-- why a piece is no token: a byte outside tokens and spaces, or a word that is none of the language
+pub data Unfit (x : Piece) : TextFault → Type 0 where
+  bad-byte : {b : ℕ} → x .lexeme ≡ stray b → Unfit x (BadByte (x .place))
+  unknown-word : {bs : List ℕ} → x .lexeme ≡ run bs → ((w : Word) → Names bs w → ⊥) → Unfit x (UnknownWord (x .place))
+
+-- nothing at the end; else the first piece as a token at its place, or why it is none
+abbrev pub Answers : List Piece → Result (Option Placed) TextFault → List Piece → Type 0
+Answers xs (Ok None) ys = (xs ≡ []) × (ys ≡ [])
+Answers xs (Ok (Some p)) ys = (x : Lexeme) × (xs ≡ record { place = p .place; lexeme = x } ∷ ys) × Means x (p .token)
+Answers xs (Err f) ys = (x : Piece) × (rest : List Piece) × (xs ≡ x ∷ rest) × Unfit x f
+
+-- the same by the items of the machine, for the reader
 abbrev pub Next : List Item → Result (Option Placed) TextFault → List Item → Type 0
 Next xs (Ok None) ys = (xs ≡ []) × (ys ≡ [])
 Next xs (Ok (Some p)) ys = xs ≡ token (p .place) (p .token) ∷ ys

@@ -4,9 +4,9 @@ ghost use mathlib.Core.List.{[], _∷_};
 ghost use Prim.Native.Nat.{_≤_, _<_};
 ghost use lib.ListN.{length, drop};
 ghost use Rattle.std.specs.Results.{Cases};
-ghost use Rattle.grammar.specs.Limits.{max-text as longest};
+ghost use Rattle.grammar.specs.Limits.{max-text};
 ghost use Rattle.grammar.specs.Machine.{items};
-ghost use Rattle.lexer.specs.Answers.{fits, left, Next};
+ghost use Rattle.lexer.specs.Answers.{fits, left, pieces, Answers, Next};
 use grammar::MAX_TEXT;
 use grammar::TextFault;
 use grammar::Token;
@@ -32,8 +32,8 @@ impl<'a> Lexer<'a> {
     // over nothing.
     pub fn new(text: &'a [u8]) -> (Result<(), TextFault>, Lexer<'a>)
         ensures refused { λ r. ⌜ r .0 ≡ fits (now (text .entry)) ⌝ }
-        ensures starts { λ r. ⌜ (length (now (text .entry)) ≤ longest → (r .1 .at ≡ 0) × (now (r .1 .text) ≡ now (text .entry))) ⌝ }
-        ensures empty { λ r. ⌜ (longest < length (now (text .entry)) → length (now (r .1 .text)) ≡ 0) ⌝ }
+        ensures starts { λ r. ⌜ (length (now (text .entry)) ≤ max-text → (r .1 .at ≡ 0) × (now (r .1 .text) ≡ now (text .entry))) ⌝ }
+        ensures empty { λ r. ⌜ (max-text < length (now (text .entry)) → length (now (r .1 .text)) ≡ 0) ⌝ }
     {
         if text.len() > MAX_TEXT {
             return (
@@ -56,6 +56,7 @@ impl<'a> Lexer<'a> {
 
     // The next token; nothing at the end of the text; or why there is none, and then the lexer stays where it is.
     pub fn next(&mut self) -> Result<Option<Placed>, TextFault>
+        ensures piece { λ r. ⌜ Answers (pieces (now (self .entry))) r (pieces (now (self .exit))) ⌝ }
         ensures answer { λ r. ⌜ Next (left (now (self .entry))) r (left (now (self .exit))) ⌝ }
         ensures same_text { λ _. ⌜ now (now (self .exit) .text) ≡ now (now (self .entry) .text) ⌝ }
         ensures unmoved { λ r. ⌜ Cases r (λ _. Unit {0}) (λ _. now (self .exit) .at ≡ now (self .entry) .at) ⌝ }
@@ -66,14 +67,14 @@ impl<'a> Lexer<'a> {
             return Ok(None);
         }
         let b = self.text[place];
-        if b == 40 {
+        if b == b'(' {
             self.at = place + 1;
             return Ok(Some(Placed {
                 place,
                 token: Token::Open,
             }));
         }
-        if b == 41 {
+        if b == b')' {
             self.at = place + 1;
             return Ok(Some(Placed {
                 place,

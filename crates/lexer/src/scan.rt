@@ -12,7 +12,7 @@ ghost use Rattle.grammar.specs.Lexemes.{isLetter, lexemes};
 pub(crate) fn is_letter(b: u8) -> bool
     ensures value { λ r. ⌜ r ≡ isLetter b ⌝ }
 {
-    (97 <= b && b <= 122) || (48 <= b && b <= 57)
+    (b'a' <= b && b <= b'z') || (b'0' <= b && b <= b'9')
 }
 
 // The first place from `at` on that holds no space, or the text's length.
@@ -23,7 +23,7 @@ pub(crate) fn skip_spaces(text: &[u8], at: usize) -> usize
     ensures same { λ r. ⌜ lexemes r (drop r (now (text .entry))) ≡ lexemes at (drop at (now (text .entry))) ⌝ }
 {
     let mut i = at;
-    while i < text.len() && text[i] == 32 {
+    while i < text.len() && text[i] == b' ' {
         i += 1;
     }
     i

@@ -9,7 +9,7 @@ use Rattle.std.proofs.shelf.Lists.{append-assoc, length-append, length-take, ta
 use Rattle.std.specs.Written.{decimal}
 use Rattle.text.specs.Lines.{joined}
 use Rattle.text.specs.Writing.{Fits}
-use Rattle.listing.specs.Lines.{refusalLine}
+use Rattle.listing.specs.Lines.{max-line, refusalLine, ruleLine}
 
 -- a piece that the line has room for
 join : (xs ys zs : List ℕ) → xs ≡ zs → length zs + length ys ≤ 64 → take 64 (xs ++ ys) ≡ zs ++ ys
@@ -41,3 +41,12 @@ text-then old buffer after text piece len end room f e m =
     let front : take len buffer ≡ text = ap (take len) (f .memory) ∙ take-at text (drop len old) len (sym (f .count)) in
     let whole : joined buffer len piece ≡ text ++ piece = ap (λ x. take (length buffer) (x ++ piece)) front ∙ take-all (length buffer) (text ++ piece) (rw length-append room) in
     ap (take end) m ∙ take-at (joined buffer len piece) (drop end buffer) end (sym e) ∙ whole
+
+pub refusal-length : (n p : ℕ) → n < 2 ^ 16 → p < 2 ^ 64 → length (refusalLine n p) ≤ 64
+refusal-length n p small wide =
+    let ln : length (decimal n) ≤ 5 = length-decimal-le 5 n (omega arith) (omega arith) (omega arith) in
+    let lp : length (decimal p) ≤ 20 = length-decimal-le 20 p (omega arith) (omega arith) wide in
+    omega (arith, length-append (decimal n) (32 ∷ (decimal p ++ 10 ∷ [])), length-append (decimal p) (10 ∷ []))
+
+pub rule-length : (text : List ℕ) → length text ≤ 541 → length (ruleLine text) ≤ max-line
+rule-length text h = omega (arith, length-append text (10 ∷ []))

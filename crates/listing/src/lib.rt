@@ -1,12 +1,13 @@
 // The lines that the program prints.
 ghost use mathlib.Core.List.{List};
 ghost use mathlib.Core.Path.{_≡_};
-ghost use Prim.Native.Nat.{ℕ};
+ghost use Prim.Native.Nat.{ℕ, _≤_};
+ghost use lib.ListN.{length};
 ghost use Rattle.grammar.specs.Grammar.{Tree};
 ghost use Rattle.grammar.specs.Layout.{layout};
 ghost use Rattle.reader.specs.Rules.{TreeOf};
 ghost use Rattle.text.specs.Writing.{Written};
-ghost use Rattle.listing.specs.Lines.{refusalLine, ruleLine};
+ghost use Rattle.listing.specs.Lines.{max-line, refusalLine, ruleLine};
 ghost use Rattle.listing.specs.Input.{Answer, faultNumber, faultPlace, firstLine};
 use reader::Rule;
 use reader::read;
@@ -18,7 +19,7 @@ use text::WriteFault;
 pub const MAX_INPUT: usize = 65536;
 
 // Why an input is not looked at.
-#[derive(Clone, Copy, PartialEq, Eq, Debug)]
+#[derive(Clone, Copy)]
 pub enum InputFault {
     TooLong,
 }
@@ -43,8 +44,8 @@ impl InputFault {
     }
 }
 
-// The longest line of a rule, its byte 10 included.
-const MAX_RULE_LINE: usize = 542;
+// The longest line that answers an input, its byte 10 included.
+pub const MAX_LINE: usize = 542;
 
 // Writes a refusal's line.
 pub fn refusal_line(number: u16, place: usize, out: &mut [u8]) -> Result<usize, WriteFault>
@@ -63,9 +64,11 @@ pub fn refusal_line(number: u16, place: usize, out: &mut [u8]) -> Result<usize, 
 
 // Writes a rule's line: its text as laid out.
 pub fn rule_line(rule: &Rule, out: &mut [u8]) -> Result<usize, WriteFault>
+    ensures some_tree { λ _. ⌜ ∥ ((t : Tree) × TreeOf (now (rule .entry)) t) ∥₁ ⌝ }
     ensures written { λ r. ⌜ ((t : Tree) → TreeOf (now (rule .entry)) t → Written (now (out .entry)) (now (out .exit)) (ruleLine (layout t)) r) ⌝ }
+    ensures short { λ _. ⌜ ((t : Tree) → TreeOf (now (rule .entry)) t → length (ruleLine (layout t)) ≤ max-line) ⌝ }
 {
-    let mut line = [0; MAX_RULE_LINE];
+    let mut line = [0; MAX_LINE];
     let len = writer::write(rule, &mut line)?;
     let end = text::put(&mut line, len, b"\n");
     text::write(out, &line[0..end])
@@ -85,6 +88,8 @@ pub fn first_line(input: &[u8]) -> &[u8]
 // Writes the line that answers an input: the rule in it written out, or why there is none.
 pub fn answer(input: &[u8], out: &mut [u8]) -> Result<usize, WriteFault>
     ensures some_line { λ _. ⌜ ((line : List ℕ) × Answer (now (input .entry)) line) ⌝ }
+    ensures one_line { λ _. ⌜ ((l m : List ℕ) → Answer (now (input .entry)) l → Answer (now (input .entry)) m → l ≡ m) ⌝ }
+    ensures short { λ _. ⌜ ((line : List ℕ) → Answer (now (input .entry)) line → length line ≤ max-line) ⌝ }
     ensures written { λ r. ⌜ ((line : List ℕ) → Answer (now (input .entry)) line → Written (now (out .entry)) (now (out .exit)) line r) ⌝ }
 {
     if input.len() > MAX_INPUT {

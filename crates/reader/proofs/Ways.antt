@@ -96,6 +96,16 @@ two-in n p k t K w xs e d few =
 pub two-many : (n p k : ℕ) (t : Tree) (K : Context rule) (w : Word) (xs : List Item) → takes w ≡ Two → depth K ≤ max-depth → k ≡ max-words → runs n (had t K) k (token p (word w) ∷ xs) ≡ refused (TooManyWords p)
 two-many n p k t K w xs e d many = too-many n p k (had t K) (want (second w t K)) (word w) xs (had-two t K w e) (omega (arith, second-depth w t K)) (omega arith)
 
+-- from where a rule is wanted to behind its first unit
+pub had-run : (n deep k j : ℕ) (xs ys zs : List Item) (t : Tree) → ((K : Context unit) → depth K + deep ≡ max-depth → runs n (want K) k xs ≡ runs n (unitDone K t) j ys) → ys ≡ zs → (K : Context rule) → depth K + deep ≡ max-depth → runs n (want (first K)) k xs ≡ runs n (had t K) j zs
+had-run n deep k j xs ys zs t go e K h = go (first K) (omega (arith, first-depth K)) ∙ ap₂ (λ S z. runs n S j z) (first-done K t) e
+
+-- and on to where its second unit is wanted; m is the text's length once more, and i counts the two-sided word
+pub want-second : (n deep k j i m p : ℕ) (xs zs : List Item) (t : Tree) (w : Word) → ((K : Context rule) → depth K + deep ≡ max-depth → runs n (want (first K)) k xs ≡ runs n (had t K) j (token p (word w) ∷ zs)) → takes w ≡ Two → m ≡ n → i ≡ j + 1 → i ≤ max-words → (K : Context rule) → depth K + deep ≡ max-depth → runs n (want (first K)) k xs ≡ runs m (want (second w t K)) i zs
+want-second n deep k j i m p xs zs t w go e same more few K h =
+    go K h ∙ two-in n p j t K w zs e (omega arith) (omega arith)
+    ∙ ap₂ (λ l x. runs l (want (second w t K)) x zs) (sym same) (sym more)
+
 no-word : (x : Token) → ((w : Word) → x ≡ word w → ⊥) → NoTwo x
 no-word Open h = tt
 no-word Close h = tt

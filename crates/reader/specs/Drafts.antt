@@ -1,4 +1,4 @@
--- What a draft of a rule holds.
+-- What a draft of a rule holds: a step in the proof of the reader.
 use mathlib.Core.List.{List}
 use lib.ListN.{take}
 use Rattle.grammar.specs.declared.Node.{Node}

@@ -1,3 +1,4 @@
 pub mod Rules
 pub mod Drafts
 pub mod Reading
+pub mod Promise

@@ -1,4 +1,5 @@
--- What the reader's functions come to, by the machine that takes a text's tokens one by one.
+-- What the reader's functions come to, by the machine that takes a text's tokens one by one: a step in the proof of the
+-- reader.
 --   Grown d e t              a draft has grown by a tree
 --   Read-unit, Read-rule     what the functions for a unit and for a rule promise
 use Prim.Native.Nat.{ℕ, _+_}

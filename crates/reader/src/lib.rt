@@ -4,12 +4,14 @@ ghost use mathlib.Core.List.{_∷_, _++_, []};
 ghost use Prim.Native.Nat.{_+_, _<_, _≤_};
 ghost use lib.ListN.{length};
 ghost use Rattle.std.specs.Results.{Cases};
+ghost use Rattle.grammar.specs.Limits.{max-words};
 ghost use Rattle.grammar.specs.Nodes.{node};
 ghost use Rattle.grammar.specs.declared.TextFault.the-variants.{TooManyWords as tooManyWords};
 ghost use Rattle.grammar.specs.Grammar.{Tree};
 ghost use Rattle.grammar.specs.Refusals.{Accepts, Refused};
 ghost use Rattle.std.specs.declared.result.Result.the-variants.{Err as failed};
-ghost use Rattle.reader.specs.Rules.{nodesIn, Holds, Writes};
+ghost use Rattle.reader.specs.Rules.{nodesIn, Holds};
+ghost use Rattle.reader.specs.Promise.{Reading, Some-text-accepted, Some-text-not-true};
 ghost use Rattle.reader.specs.Drafts.{drafted};
 
 mod draft;
@@ -59,7 +61,7 @@ impl Draft {
 
     // One word more, at `place`.
     pub(crate) fn count(&mut self, place: usize) -> Result<(), TextFault>
-        ensures counted { λ r. ⌜ Cases r (λ _. now (self .exit) .words ≡ now (self .entry) .words + 1) (λ f. (f ≡ tooManyWords place) × (now (self .entry) .words ≡ 64)) ⌝ }
+        ensures counted { λ r. ⌜ Cases r (λ _. now (self .exit) .words ≡ now (self .entry) .words + 1) (λ f. (f ≡ tooManyWords place) × (now (self .entry) .words ≡ max-words)) ⌝ }
         ensures same { λ _. ⌜ now (self .exit) .nodes ≡ now (self .entry) .nodes ⌝ }
     {
         if self.words >= MAX_WORDS {
@@ -84,7 +86,7 @@ impl Draft {
 
 // The nodes of a rule text.
 fn read_nodes(text: &[u8]) -> Result<Nodes, TextFault>
-    ensures outcome { λ r. ⌜ Cases r (λ read. (read .len ≤ 64) × ((t : Tree) × Accepts (now (text .entry)) t × Holds read t)) (λ f. Refused (now (text .entry)) f) ⌝ }
+    ensures outcome { λ r. ⌜ Cases r (λ read. (read .len ≤ max-words) × ((t : Tree) × Accepts (now (text .entry)) t × Holds read t)) (λ f. Refused (now (text .entry)) f) ⌝ }
     ensures accepts { λ r. ⌜ ((t : Tree) → Accepts (now (text .entry)) t → Cases r (λ read. Holds read t) (λ _. ⊥)) ⌝ }
     ensures refuses { λ r. ⌜ ((f : TextFault) → Refused (now (text .entry)) f → r ≡ failed f) ⌝ }
 {
@@ -98,13 +100,19 @@ fn read_nodes(text: &[u8]) -> Result<Nodes, TextFault>
 
 // Reads a rule text: the rule, or why and where the text is refused.
 pub fn read(text: &[u8]) -> Result<Rule, TextFault>
-    ensures outcome { λ r. ⌜ Cases r (λ rule. (t : Tree) × Accepts (now (text .entry)) t × Writes rule t) (λ f. Refused (now (text .entry)) f) ⌝ }
-    ensures accepts { λ r. ⌜ ((t : Tree) → Accepts (now (text .entry)) t → Cases r (λ rule. Writes rule t) (λ _. ⊥)) ⌝ }
-    ensures refuses { λ r. ⌜ ((f : TextFault) → Refused (now (text .entry)) f → r ≡ failed f) ⌝ }
+    ensures reading { λ r. ⌜ Reading (now (text .entry)) r ⌝ }
     ensures one_reading { λ _. ⌜ ((t u : Tree) → Accepts (now (text .entry)) t → Accepts (now (text .entry)) u → t ≡ u) ⌝ }
 {
     match read_nodes(text) {
         Ok(nodes) => Ok(Rule { nodes }),
         Err(fault) => Err(fault),
     }
+}
+
+// What the promise of `read` shuts out: a reader that refuses every text, and one that makes `true` of each.
+pub fn reading_stands() -> u8
+    ensures not_all_refused { λ _. ⌜ Some-text-accepted ⌝ }
+    ensures not_all_true { λ _. ⌜ Some-text-not-true ⌝ }
+{
+    0
 }

@@ -130,8 +130,8 @@ fn in_parentheses(
 pub(crate) fn nothing_behind(next: Option<Placed>) -> Result<(), TextFault>
     ensures value { λ r. ⌜ r ≡ ended next ⌝ }
 {
-    match next {
-        None => Ok(()),
-        Some(next) => Err(TextFault::Misplaced(next.place)),
-    }
+    let Some(next) = next else {
+        return Ok(());
+    };
+    Err(TextFault::Misplaced(next.place))
 }

@@ -4,6 +4,7 @@ ghost use mathlib.Core.List.{List};
 ghost use Prim.Native.Nat.{ℕ, _≤_};
 ghost use lib.ListN.{take};
 ghost use Rattle.grammar.specs.Grammar.{Tree};
+ghost use Rattle.grammar.specs.Limits.{max-words};
 ghost use Rattle.grammar.specs.Nodes.{nodes as nodesOf};
 ghost use Rattle.grammar.specs.Refusals.{Accepts};
 use grammar::MAX_WORDS;
@@ -20,6 +21,6 @@ pub(crate) struct Nodes {
 #[derive(Clone, Copy)]
 pub struct Rule {
     pub(crate) nodes: Nodes,
-    ghost within: { nodes .len ≤ 64 },
+    ghost within: { nodes .len ≤ max-words },
     ghost accepted: { ∥ ((text : List ℕ) × (t : Tree) × Accepts text t × (take (nodes .len) (nodes .items) ≡ nodesOf 0 t)) ∥₁ },
 }

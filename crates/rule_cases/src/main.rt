@@ -1,6 +1,7 @@
 // Answers each line of standard input as an input of its own, and then a few inputs that are no line: what is printed is
 // held to the file `stdout`.
 use listing::MAX_INPUT;
+use listing::MAX_LINE;
 use listing::answer;
 use listing::first_line;
 use listing::refusal_line;
@@ -9,16 +10,16 @@ use std::io::Read;
 use std::io::Write;
 use text::WriteFault;
 
-// Room for the longest line that answers an input.
-const MAX_LINE: usize = 600;
-
-// Prints the line that answers the input.
-fn show(rt: &LibcRuntime, input: &[u8]) -> io::Result<()> {
-    let mut line = [0u8; MAX_LINE];
-    match answer(input, &mut line) {
+// Prints the line that answers the input, in the memory lent.
+fn show_in(rt: &LibcRuntime, input: &[u8], line: &mut [u8]) -> io::Result<()> {
+    match answer(input, line) {
         Ok(end) => rt.stdout().write_all(&line[0..end]),
         Err(fault) => show_fault(rt, fault),
     }
+}
+
+fn show(rt: &LibcRuntime, input: &[u8]) -> io::Result<()> {
+    show_in(rt, input, &mut [0u8; MAX_LINE])
 }
 
 // Prints the refusal of a writing call.
@@ -28,15 +29,6 @@ fn show_fault(rt: &LibcRuntime, fault: WriteFault) -> io::Result<()> {
         return Ok(());
     };
     rt.stdout().write_all(&line[0..end])
-}
-
-// Answers the input in memory of nine bytes.
-fn show_in_nine(rt: &LibcRuntime, input: &[u8]) -> io::Result<()> {
-    let mut line = [0u8; 9];
-    match answer(input, &mut line) {
-        Ok(end) => rt.stdout().write_all(&line[0..end]),
-        Err(fault) => show_fault(rt, fault),
-    }
 }
 
 // Answers each line of the input.
@@ -59,6 +51,6 @@ fn main(rt: LibcRuntime) -> io::Result<()> {
     let over = vec![in rt.alloc(); b'\n'; MAX_INPUT + 1]?;
     show(&rt, over.as_slice())?;
     show(&rt, b"p1\n\0(")?;
-    show_in_nine(&rt, b"p1 or p2")?;
-    show_in_nine(&rt, b"p1 and p2")
+    show_in(&rt, b"p1 or p2", &mut [0u8; 9])?;
+    show_in(&rt, b"p1 and p2", &mut [0u8; 9])
 }

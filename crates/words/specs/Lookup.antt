@@ -1,4 +1,4 @@
--- The search of the table, row by row, for the word that some bytes are.
+-- The search of the table, row by row, for the word that some bytes are: a step in the proof of the reader.
 --   startsNumber ds          there is a byte, and no other behind a leading zero
 --   isNumeral ds             the bytes are digits with no leading zero
 --   valueUpTo high ds        the number that the bytes write, if it is at most `high`; withDigit reads one digit of it

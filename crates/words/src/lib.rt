@@ -1,4 +1,5 @@
 // The words of the rule language, in one table that the lexer, the reader and the writer read.
+ghost use Rattle.std.specs.declared.option.Option.the-variants.{Some as found};
 ghost use mathlib.Core.Path.{_≡_};
 ghost use mathlib.Core.Bool.{true, false};
 ghost use mathlib.Core.List.{map};
@@ -7,7 +8,7 @@ ghost use Rattle.words.specs.Words.{text, operands, numbering, bare, within, N
 ghost use Rattle.words.specs.Lookup.{startsNumber, numbered, valueUpTo, withDigit, numberingOf, line, lineOf, fit, seek, lookup};
 
 // What a word does in a rule.
-#[derive(Clone, Copy, PartialEq, Eq, Debug)]
+#[derive(Clone, Copy)]
 pub enum Operator {
     And,
     Or,
@@ -35,7 +36,7 @@ pub enum Operator {
 }
 
 // How many units a word takes.
-#[derive(Clone, Copy, PartialEq, Eq, Debug)]
+#[derive(Clone, Copy)]
 pub enum Operands {
     Zero,
     One,
@@ -43,7 +44,7 @@ pub enum Operands {
 }
 
 // The numbers that may follow a numbered word.
-#[derive(Clone, Copy, PartialEq, Eq, Debug)]
+#[derive(Clone, Copy)]
 pub struct Numbers {
     pub lowest: u16,
     pub highest: u16,
@@ -211,7 +212,7 @@ pub const WORDS: [Row; 23] = [
 ];
 
 // A word of a rule: its operator, and the number of `pN` and `rN`, which is 0 for every other word.
-#[derive(Clone, Copy, PartialEq, Eq, Debug)]
+#[derive(Clone, Copy)]
 pub struct Word {
     pub operator: Operator,
     pub number: u16,
@@ -250,6 +251,7 @@ fn row_of(operator: Operator) -> &'static Row
 // The word that the bytes are.
 pub fn find(run: &[u8]) -> Option<Word>
     ensures named { λ r. ⌜ Cases r ((w : Word) → Names (now (run .entry)) w → ⊥) (λ w. Names (now (run .entry)) w) ⌝ }
+    ensures only { λ r. ⌜ ((w : Word) → Names (now (run .entry)) w → r ≡ found w) ⌝ }
     ensures value { λ r. ⌜ r ≡ lookup (now (run .entry)) ⌝ }
 {
     find_in(&WORDS, run)

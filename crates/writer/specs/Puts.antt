@@ -1,4 +1,4 @@
--- A text that is built piece by piece in a buffer.
+-- A text that is built piece by piece in a buffer: a step in the proof of the writer.
 --   Puts old new at text end     the buffer held old and then holds new: behind its first `at` bytes stands the text,
 --                                as far as the buffer reaches, which is up to the place `end`
 use Prim.Native.Nat.{ℕ}

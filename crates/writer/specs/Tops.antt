@@ -1,4 +1,4 @@
--- How the nodes of a tree stand in a list.
+-- How the nodes of a tree stand in a list: a step in the proof of the writer.
 --   Ordered k ns     every operand's number is below its node's; the first node has the number k
 --   Tops ns n t      the node with the number n is the top of the tree t
 use Prim.Native.Nat.{ℕ, _-_, _<_, suc}

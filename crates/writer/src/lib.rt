@@ -1,4 +1,4 @@
-// Writes a rule's text: no parentheses and no spaces but those that are needed.
+// Writes a rule out.
 ghost use mathlib.Core.Path.{_≡_};
 ghost use Prim.Native.Nat.{_<_, _≤_};
 ghost use lib.ListN.{length};

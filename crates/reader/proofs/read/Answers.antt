@@ -19,14 +19,14 @@ carried {f} {g} e = let same : f ≡ g = cc in ap Err same
 pub ghost-result : need.ghost-result
 ghost-result c =
     let o = c .in-Ok .ensures tt .outcome in
-    (o .0, (∣ (c .args .text .now, o .1 .0, o .1 .1, o .1 .2) ∣₁, tt))
+    (o .0, (∣ (_, o .1 .0, o .1 .1, o .1 .2) ∣₁, tt))
 
 pub returns-in-Ok : need.returns-in-Ok
 returns-in-Ok c =
     let e = c .in-Ok .ensures tt in
-    record { outcome = e .outcome .1; accepts = e .accepts; refuses = λ f h. absurd (never (e .refuses f h)); one-reading = one-reading (c .args .text .now) }
+    record { reading = record { outcome = e .outcome .1; accepts = e .accepts; refuses = λ f h. absurd (never (e .refuses f h)) }; one-reading = one-reading (c .args .text .now) }
 
 pub returns-in-Err : need.returns-in-Err
 returns-in-Err c =
     let e = c .in-Err .ensures tt in
-    record { outcome = e .outcome; accepts = e .accepts; refuses = λ f h. carried (e .refuses f h); one-reading = one-reading (c .args .text .now) }
+    record { reading = record { outcome = e .outcome; accepts = e .accepts; refuses = λ f h. carried (e .refuses f h) }; one-reading = one-reading (c .args .text .now) }

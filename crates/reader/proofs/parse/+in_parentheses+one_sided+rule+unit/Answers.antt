@@ -14,7 +14,7 @@ use Rattle.grammar.specs.declared.TextFault.the-variants.{EndsEarly}
 use Rattle.lexer.specs.Answers.{left, textOf}
 use Rattle.reader.specs.Reading.{behind}
 use Rattle.reader.proofs.Steps.{at-end, at-bad, first-depth, second-depth, first-done, second-done, under-done}
-use Rattle.reader.proofs.Ways.{next-none, next-some, paren-deep, paren-in, inside-level, close-missing, close-found, one-deep, one-many, one-in, under-level, two-wanted, close-wanted, two-in, two-many, alone-by-token, alone-by-word, rule-by-next, size-some, Pushed, Counted, grown-one, grown-two}
+use Rattle.reader.proofs.Ways.{next-none, next-some, had-run, want-second, paren-deep, paren-in, inside-level, close-missing, close-found, one-deep, one-many, one-in, under-level, two-wanted, close-wanted, two-in, two-many, alone-by-token, alone-by-word, rule-by-next, size-some, Pushed, Counted, grown-one, grown-two}
 use Rattle.reader.proofs.parse.+in_parentheses+one_sided+rule+unit.Needs as need
 
 pub in-parentheses-returns-in-Break-below : need.in-parentheses-returns-in-Break-below
@@ -146,16 +146,11 @@ rule-sub-operand t c =
     let rd = c .in-Continue-unit .ensures tt .read in
     omega (arith, size-some (rd .0), rd .2 .len)
 
--- the machine behind a rule's first unit
-had-at : (n k j : ℕ) (xs ys zs : List Item) (t : Tree) (K : Context rule) → runs n (want (first K)) k xs ≡ runs n (unitDone (first K) t) j ys → ys ≡ zs → runs n (want (first K)) k xs ≡ runs n (had t K) j zs
-had-at n k j xs ys zs t K e f = e ∙ ap₂ (λ S z. runs n S j z) (first-done K t) f
-
 pub rule-returns-in-Break-next : need.rule-returns-in-Break-next
 rule-returns-in-Break-next t c =
     let a = c .in-Break-next .ensures tt .answer in
     let rd = c .in-Continue-unit .ensures tt .read in
-    let first-unit : (K : Context rule) → depth K + c .args .deep ≡ max-depth → runs (length (textOf (c .args .lexer .now))) (want (first K)) (c .args .draft .now .words) (left (c .args .lexer .now)) ≡ runs (length (textOf (c .args .lexer .now))) (had (rd .0) K) (c .unit .last .draft .words) (bad (c .in-Break-next .field-0 .0) ∷ a .0) =
-    λ K h. had-at _ _ _ _ _ _ (rd .0) K (rd .1 (first K) (omega (arith, first-depth K))) (a .1) in
+    let first-unit = had-run _ (c .args .deep) _ _ _ _ _ (rd .0) (rd .1) (a .1) in
     record {
       read =
           let p = err-from-errBy (c .from-residual-in-Break-next .result) (c .from-residual-in-Break-next .ensures .1) in
@@ -166,22 +161,19 @@ rule-returns-in-Break-next t c =
 pub rule-returns-in-rest : need.rule-returns-in-rest
 rule-returns-in-rest t c =
     let rd = c .in-Continue-unit .ensures tt .read in
-    let first-unit : (K : Context rule) → depth K + c .args .deep ≡ max-depth → runs (length (textOf (c .args .lexer .now))) (want (first K)) (c .args .draft .now .words) (left (c .args .lexer .now)) ≡ runs (length (textOf (c .args .lexer .now))) (had (rd .0) K) (c .unit .last .draft .words) [] =
-    λ K h. had-at _ _ _ _ _ _ (rd .0) K (rd .1 (first K) (omega (arith, first-depth K))) (next-none (left (c .unit .last .lexer)) (left (c .next .last .self)) (c .in-rest .is) (c .in-Continue-next .ensures tt .answer)) in
+    let first-unit = had-run _ (c .args .deep) _ _ _ _ _ (rd .0) (rd .1) (next-none (left (c .unit .last .lexer)) (left (c .next .last .self)) (c .in-rest .is) (c .in-Continue-next .ensures tt .answer)) in
     record { read = (rd .0, (λ K h. first-unit K h ∙ at-end _ _ (had (rd .0) K)), rd .2); same-text = c .next .ensures .same-text ∙ c .unit .ensures .same-text }
 
 pub rule-returns-in-rest-token : need.rule-returns-in-rest-token
 rule-returns-in-rest-token t c =
     let rd = c .in-Continue-unit .ensures tt .read in
-    let first-unit : (K : Context rule) → depth K + c .args .deep ≡ max-depth → runs (length (textOf (c .args .lexer .now))) (want (first K)) (c .args .draft .now .words) (left (c .args .lexer .now)) ≡ runs (length (textOf (c .args .lexer .now))) (had (rd .0) K) (c .unit .last .draft .words) (token (c .in-Some .next .place) (c .in-Some .next .token) ∷ left (c .next .last .self)) =
-    λ K h. had-at _ _ _ _ _ _ (rd .0) K (rd .1 (first K) (omega (arith, first-depth K))) (next-some (left (c .unit .last .lexer)) (left (c .next .last .self)) (c .in-Some .is) (c .in-Continue-next .ensures tt .answer)) in
+    let first-unit = had-run _ (c .args .deep) _ _ _ _ _ (rd .0) (rd .1) (next-some (left (c .unit .last .lexer)) (left (c .next .last .self)) (c .in-Some .is) (c .in-Continue-next .ensures tt .answer)) in
     record { read = (rd .0, (λ K h. first-unit K h ∙ alone-by-token _ _ (rd .0) K (c .in-Some .next) _ (c .in-rest-token .not-Word)), rd .2); same-text = c .next .ensures .same-text ∙ c .unit .ensures .same-text }
 
 pub rule-returns-in-rest-operands-of : need.rule-returns-in-rest-operands-of
 rule-returns-in-rest-operands-of t c =
     let rd = c .in-Continue-unit .ensures tt .read in
-    let first-unit : (K : Context rule) → depth K + c .args .deep ≡ max-depth → runs (length (textOf (c .args .lexer .now))) (want (first K)) (c .args .draft .now .words) (left (c .args .lexer .now)) ≡ runs (length (textOf (c .args .lexer .now))) (had (rd .0) K) (c .unit .last .draft .words) (token (c .in-Some .next .place) (c .in-Some .next .token) ∷ left (c .next .last .self)) =
-    λ K h. had-at _ _ _ _ _ _ (rd .0) K (rd .1 (first K) (omega (arith, first-depth K))) (next-some (left (c .unit .last .lexer)) (left (c .next .last .self)) (c .in-Some .is) (c .in-Continue-next .ensures tt .answer)) in
+    let first-unit = had-run _ (c .args .deep) _ _ _ _ _ (rd .0) (rd .1) (next-some (left (c .unit .last .lexer)) (left (c .next .last .self)) (c .in-Some .is) (c .in-Continue-next .ensures tt .answer)) in
     record {
       read = (rd .0, (λ K h. first-unit K h ∙ alone-by-word _ _ (rd .0) K (c .in-Some .next) (c .in-Word .word) _ (c .in-Word .is) (λ e. c .in-rest-operands-of .not-Two (c .operands-of .ensures .value ∙ e))), rd .2);
       same-text = c .next .ensures .same-text ∙ c .unit .ensures .same-text;
@@ -190,8 +182,7 @@ rule-returns-in-rest-operands-of t c =
 pub rule-returns-in-Break-count : need.rule-returns-in-Break-count
 rule-returns-in-Break-count t c =
     let rd = c .in-Continue-unit .ensures tt .read in
-    let first-unit : (K : Context rule) → depth K + c .args .deep ≡ max-depth → runs (length (textOf (c .args .lexer .now))) (want (first K)) (c .args .draft .now .words) (left (c .args .lexer .now)) ≡ runs (length (textOf (c .args .lexer .now))) (had (rd .0) K) (c .unit .last .draft .words) (token (c .in-Some .next .place) (word (c .in-Word .word)) ∷ left (c .next .last .self)) =
-    λ K h. had-at _ _ _ _ _ _ (rd .0) K (rd .1 (first K) (omega (arith, first-depth K))) (next-some (left (c .unit .last .lexer)) (left (c .next .last .self)) (c .in-Some .is) (c .in-Continue-next .ensures tt .answer) ∙ ap (λ x. token (c .in-Some .next .place) x ∷ left (c .next .last .self)) (c .in-Word .is)) in
+    let first-unit = had-run _ (c .args .deep) _ _ _ _ _ (rd .0) (rd .1) (next-some (left (c .unit .last .lexer)) (left (c .next .last .self)) (c .in-Some .is) (c .in-Continue-next .ensures tt .answer) ∙ ap (λ x. token (c .in-Some .next .place) x ∷ left (c .next .last .self)) (c .in-Word .is)) in
     let two-sided : takes (c .in-Word .word) ≡ Two = sym (c .operands-of .ensures .value) ∙ c .in-Two .is in
     let many = c .in-Break-count .ensures tt .counted in
     record {
@@ -204,14 +195,10 @@ rule-returns-in-Break-count t c =
 pub rule-returns-in-Break-unit-2 : need.rule-returns-in-Break-unit-2
 rule-returns-in-Break-unit-2 t c =
     let rd = c .in-Continue-unit .ensures tt .read in
-    let first-unit : (K : Context rule) → depth K + c .args .deep ≡ max-depth → runs (length (textOf (c .args .lexer .now))) (want (first K)) (c .args .draft .now .words) (left (c .args .lexer .now)) ≡ runs (length (textOf (c .args .lexer .now))) (had (rd .0) K) (c .unit .last .draft .words) (token (c .in-Some .next .place) (word (c .in-Word .word)) ∷ left (c .next .last .self)) =
-    λ K h. had-at _ _ _ _ _ _ (rd .0) K (rd .1 (first K) (omega (arith, first-depth K))) (next-some (left (c .unit .last .lexer)) (left (c .next .last .self)) (c .in-Some .is) (c .in-Continue-next .ensures tt .answer) ∙ ap (λ x. token (c .in-Some .next .place) x ∷ left (c .next .last .self)) (c .in-Word .is)) in
+    let first-unit = had-run _ (c .args .deep) _ _ _ _ _ (rd .0) (rd .1) (next-some (left (c .unit .last .lexer)) (left (c .next .last .self)) (c .in-Some .is) (c .in-Continue-next .ensures tt .answer) ∙ ap (λ x. token (c .in-Some .next .place) x ∷ left (c .next .last .self)) (c .in-Word .is)) in
     let two-sided : takes (c .in-Word .word) ≡ Two = sym (c .operands-of .ensures .value) ∙ c .in-Two .is in
     let more = c .in-Continue-count .ensures tt in
-    let second-unit : (K : Context rule) → depth K + c .args .deep ≡ max-depth → runs (length (textOf (c .args .lexer .now))) (want (first K)) (c .args .draft .now .words) (left (c .args .lexer .now)) ≡ runs (length (textOf (c .next .last .self))) (want (second (c .in-Word .word) (rd .0) K)) (c .count .last .self .words) (left (c .next .last .self)) =
-    λ K h.
-    first-unit K h ∙ two-in _ _ _ (rd .0) K (c .in-Word .word) _ two-sided (omega arith) (omega (arith, more .counted, c .count .last .self .few))
-    ∙ ap₂ (λ n k. runs n (want (second (c .in-Word .word) (rd .0) K)) k (left (c .next .last .self))) (sym (ap length (c .next .ensures .same-text ∙ c .unit .ensures .same-text))) (sym (more .counted)) in
+    let second-unit = want-second _ (c .args .deep) _ _ (c .count .last .self .words) _ _ _ _ (rd .0) (c .in-Word .word) first-unit two-sided (ap length (c .next .ensures .same-text ∙ c .unit .ensures .same-text)) (more .counted) (c .count .last .self .few) in
     record {
       read =
           let p = err-from-errBy (c .from-residual-in-Break-unit-2 .result) (c .from-residual-in-Break-unit-2 .ensures .1) in
@@ -222,14 +209,10 @@ rule-returns-in-Break-unit-2 t c =
 pub rule-returns : need.rule-returns
 rule-returns t c =
     let rd = c .in-Continue-unit .ensures tt .read in
-    let first-unit : (K : Context rule) → depth K + c .args .deep ≡ max-depth → runs (length (textOf (c .args .lexer .now))) (want (first K)) (c .args .draft .now .words) (left (c .args .lexer .now)) ≡ runs (length (textOf (c .args .lexer .now))) (had (rd .0) K) (c .unit .last .draft .words) (token (c .in-Some .next .place) (word (c .in-Word .word)) ∷ left (c .next .last .self)) =
-    λ K h. had-at _ _ _ _ _ _ (rd .0) K (rd .1 (first K) (omega (arith, first-depth K))) (next-some (left (c .unit .last .lexer)) (left (c .next .last .self)) (c .in-Some .is) (c .in-Continue-next .ensures tt .answer) ∙ ap (λ x. token (c .in-Some .next .place) x ∷ left (c .next .last .self)) (c .in-Word .is)) in
+    let first-unit = had-run _ (c .args .deep) _ _ _ _ _ (rd .0) (rd .1) (next-some (left (c .unit .last .lexer)) (left (c .next .last .self)) (c .in-Some .is) (c .in-Continue-next .ensures tt .answer) ∙ ap (λ x. token (c .in-Some .next .place) x ∷ left (c .next .last .self)) (c .in-Word .is)) in
     let two-sided : takes (c .in-Word .word) ≡ Two = sym (c .operands-of .ensures .value) ∙ c .in-Two .is in
     let more = c .in-Continue-count .ensures tt in
-    let second-unit : (K : Context rule) → depth K + c .args .deep ≡ max-depth → runs (length (textOf (c .args .lexer .now))) (want (first K)) (c .args .draft .now .words) (left (c .args .lexer .now)) ≡ runs (length (textOf (c .next .last .self))) (want (second (c .in-Word .word) (rd .0) K)) (c .count .last .self .words) (left (c .next .last .self)) =
-    λ K h.
-    first-unit K h ∙ two-in _ _ _ (rd .0) K (c .in-Word .word) _ two-sided (omega arith) (omega (arith, more .counted, c .count .last .self .few))
-    ∙ ap₂ (λ n k. runs n (want (second (c .in-Word .word) (rd .0) K)) k (left (c .next .last .self))) (sym (ap length (c .next .ensures .same-text ∙ c .unit .ensures .same-text))) (sym (more .counted)) in
+    let second-unit = want-second _ (c .args .deep) _ _ (c .count .last .self .words) _ _ _ _ (rd .0) (c .in-Word .word) first-unit two-sided (ap length (c .next .ensures .same-text ∙ c .unit .ensures .same-text)) (more .counted) (c .count .last .self .few) in
     let re = c .in-Continue-unit-2 .ensures tt .read in
     let counted : Counted (c .unit .last .draft) (c .count .last .self) = record { same = more .same; words = more .counted } in
     let pushed : Pushed (c .unit-2 .last .draft) (c .push .last .self) (c .in-Word .word) (c .unit .last .draft .nodes .len - 1) = record { pushed = c .push .ensures .pushed; len = c .push .ensures .len; words = c .push .ensures .words } in
