@@ -1,0 +1,12 @@
+pub mod Worked
+pub mod Folds
+pub mod Alike
+pub mod Related
+pub mod Prefix
+pub mod Carrying
+pub mod Recurring
+pub mod Runs
+pub mod Stacks
+pub mod Views
+pub mod Nests
+pub mod Looking

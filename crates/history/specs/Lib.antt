@@ -1,0 +1,5 @@
+pub mod Moments
+pub mod Value
+pub mod Calls
+pub mod Theorems
+pub mod Example
