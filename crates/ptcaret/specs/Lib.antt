@@ -1,0 +1,3 @@
+pub mod Traces
+pub mod Satisfaction
+pub mod Theorems
