@@ -1,0 +1,9 @@
+pub mod Places
+pub mod Orders
+pub mod Words
+pub mod Running
+pub mod Backs
+pub mod Growing
+pub mod Piles
+pub mod Opened
+pub mod Watching
