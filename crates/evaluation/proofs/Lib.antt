@@ -4,6 +4,6 @@ pub mod Words
 pub mod Running
 pub mod Backs
 pub mod Growing
-pub mod Piles
+pub mod Pushes
 pub mod Opened
 pub mod Watching

@@ -18,7 +18,7 @@ use Rattle.reels.proofs.Taken.{begins-taken}
 use Rattle.history.specs.Moments.{Moment, events, blank, numbered, sameKind, is}
 use Rattle.history.specs.Calls.{calls, routineAt, withDue}
 use Rattle.history.proofs.Nests.{nest-matching}
-use Rattle.evaluation.specs.Cells.{lastIs, begun, pile}
+use Rattle.evaluation.specs.Cells.{lastIs, begun, stack}
 use Rattle.evaluation.specs.Theorems.{Begun-opened}
 
 abbrev isDue : Pending → Bool
@@ -64,5 +64,5 @@ begun-opened d es b =
     let s = follow start es in
     ap (λ x. map (routineAt es) (cond x (outer cs) cs)) (due-now d es (begins-taken d es b)) ∙ opened-of (routineAt es) cs (s .opened) (s .pending) (nest-matching d es b .0)
 
-pub pile-height : (A : Algebra) (t : Tree) (d : ℕ) (h : List (Moment (A .Val))) → Begins d (events h) → length (pile A t h) ≡ length (follow start (events h) .opened)
-pile-height A t d h b = length-reverse _ ∙ (length-map (begun (events h)) _ ∙ (sym (length-map (begun (events h)) (routineAt (events h))) ∙ ap length (begun-opened d (events h) b)))
+pub stack-height : (A : Algebra) (t : Tree) (d : ℕ) (h : List (Moment (A .Val))) → Begins d (events h) → length (stack A t h) ≡ length (follow start (events h) .opened)
+stack-height A t d h b = length-reverse _ ∙ (length-map (begun (events h)) _ ∙ (sym (length-map (begun (events h)) (routineAt (events h))) ∙ ap length (begun-opened d (events h) b)))

@@ -24,7 +24,7 @@ use Rattle.evaluation.proofs.Orders.{last-value}
 use Rattle.evaluation.proofs.Words.{Kin, no-cells, plains, routines, IfCell}
 use Rattle.evaluation.proofs.Running.{e, r, Holds, evaluates, renewed, freshly}
 use Rattle.evaluation.proofs.Growing.{map-same, held-prefix, prior-back}
-use Rattle.evaluation.proofs.Piles.{remembered}
+use Rattle.evaluation.proofs.Pushes.{remembered}
 
 at-all : {V : Type 0} (d : V) (xs : List V) → At d xs 0 xs
 at-all d xs = subst (λ l. At d l 0 xs) (append-nil xs) (at-own d [] xs [] 0 refl)
@@ -44,7 +44,7 @@ unfolding numbered events calls
 fresh-first A L t =
     let P : Plain A 0 = recurrences A L 0 .0 in
     let R : Along A [] 0 (prior [] 1) = recurrences A L 0 .1 0 [] ([], nothing) in
-    sym (ap₂ {C = Memory (A .Val)} (λ x y. record { cells = record { plain = x; routine = y }; pile = [] }) (freshly A [] 0 P R ifPlain ifPlain (pick-plain A) t 0 0 0) (freshly A [] 0 P R ifRoutine ifRoutine (pick-routine A) t 0 0 0))
+    sym (ap₂ {C = Memory (A .Val)} (λ x y. record { cells = record { plain = x; routine = y }; stack = [] }) (freshly A [] 0 P R ifPlain ifPlain (pick-plain A) t 0 0 0) (freshly A [] 0 P R ifRoutine ifRoutine (pick-routine A) t 0 0 0))
 
 pub evaluated : (A : Algebra) → Laws A → Evaluates A
 evaluated A L t d h m b = record { nodes = nodes; rule = rule; cells = cells; memory = ap (settled (m .event .kind) (memoryAt A t h)) cells ∙ remembered A t h m d b }

@@ -6,8 +6,8 @@
 --   cellsAt A t h q      both
 --   innermost, back es   where the routine words of the next event look back to: after an end the call that has to return, else the last event
 --   begun es             the calls whose routines are open, the innermost first
---   pile A t h           the routine cells at those calls, the outermost first
---   memoryAt A t h       the cells and the pile
+--   stack A t h           the routine cells at those calls, the outermost first
+--   memoryAt A t h       the cells and the stack
 use Prim.Native.Nat.{ℕ}
 use mathlib.Core.Bool.{Bool, cond, _||_}
 use mathlib.Core.List.{List, [], _∷_, map, reverse}
@@ -58,9 +58,9 @@ back es = cond (lastIs End es) (innermost (calls es (length es))) (length es)
 abbrev pub begun : List Event → List ℕ
 begun es = cond (lastIs Call es || lastIs End es) (outer (calls es (length es))) (calls es (length es))
 
-abbrev pub pile : (A : Algebra) → Tree → List (Moment (A .Val)) → List (List (A .Val))
-pile A t h = reverse (map (routineAt A t h) (begun (events h)))
+abbrev pub stack : (A : Algebra) → Tree → List (Moment (A .Val)) → List (List (A .Val))
+stack A t h = reverse (map (routineAt A t h) (begun (events h)))
 
 -- what a watcher keeps after a history
 abbrev pub memoryAt : (A : Algebra) → Tree → List (Moment (A .Val)) → Memory (A .Val)
-memoryAt A t h = record { cells = cellsAt A t h (back (events h)); pile = pile A t h }
+memoryAt A t h = record { cells = cellsAt A t h (back (events h)); stack = stack A t h }

@@ -6,7 +6,7 @@
 --   keepsOperand s        whether the step's cell keeps its operand's value; it keeps the step's own value otherwise
 --   newCells              the cells after the event, from the values of all the steps
 --   freshCells            the cells before the first event
---   Memory V, settled     the cells with the pile of those that open routines were called with, and both after an event
+--   Memory V, settled     the cells with the stack of those that open routines were called with, and both after an event
 use Prim.Native.Nat.{ℕ, suc, _-_}
 use mathlib.Core.Bool.{Bool, true, false, cond}
 use mathlib.Core.List.{List, [], _∷_, _++_}
@@ -28,9 +28,9 @@ pub record Cells (V : Type 0) : Type 0 where
 -- the cells, and the routine cells that open routines were called with, the outermost first
 pub record Memory (V : Type 0) : Type 0 where
   pub cells : Cells V
-  pub pile : List (List V)
+  pub stack : List (List V)
 
--- the last of a pile, and the others
+-- the last of a stack, and the others
 abbrev pub top : {V : Type 0} → List (List V) → List V
 top ps = getD ps (length ps - 1) []
 
@@ -38,13 +38,13 @@ abbrev pub lower : {V : Type 0} → List (List V) → List (List V)
 lower ps = take (length ps - 1) ps
 
 -- what is kept after an event of a kind, where the memory was m before it and the cells are new:
--- a begin puts the cells before it on the pile, and an end takes them off
+-- a begin puts the cells before it on the stack, and an end takes them off
 abbrev pub settled : {V : Type 0} → EventKind → Memory V → Cells V → Memory V
-settled EventKind.Step m new = record { cells = new; pile = m .pile }
-settled EventKind.Call m new = record { cells = new; pile = m .pile }
-settled EventKind.Begin m new = record { cells = new; pile = m .pile ++ m .cells .routine ∷ [] }
-settled EventKind.End m new = record { cells = record { plain = new .plain; routine = top (m .pile) }; pile = lower (m .pile) }
-settled EventKind.Return m new = record { cells = new; pile = m .pile }
+settled EventKind.Step m new = record { cells = new; stack = m .stack }
+settled EventKind.Call m new = record { cells = new; stack = m .stack }
+settled EventKind.Begin m new = record { cells = new; stack = m .stack ++ m .cells .routine ∷ [] }
+settled EventKind.End m new = record { cells = record { plain = new .plain; routine = top (m .stack) }; stack = lower (m .stack) }
+settled EventKind.Return m new = record { cells = new; stack = m .stack }
 
 -- the number of a step's left operand, where it has one
 abbrev pub leftOf : Step → ℕ

@@ -28,7 +28,7 @@ abbrev pub Begun-opened : Type 0
 Begun-opened = (d : ℕ) (es : List Event) → Begins d es → map (routineAt es) (begun es) ≡ follow start es .opened
 
 abbrev pub Fresh : Algebra → Type 0
-Fresh A = (t : Tree) → memoryAt A t [] ≡ record { cells = freshCells A (rulePlan t); pile = [] }
+Fresh A = (t : Tree) → memoryAt A t [] ≡ record { cells = freshCells A (rulePlan t); stack = [] }
 
 module _ (A : Algebra) where
   -- the values of the rule's steps at the moment m after the history h

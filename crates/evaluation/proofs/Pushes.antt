@@ -1,4 +1,4 @@
--- The pile of routine cells over an event.
+-- The stack of routine cells over an event.
 use Prim.Native.Nat.{ℕ, zero, suc, _+_, _-_, _≤_}
 use mathlib.Core.Bool.{Bool, true, false, cond, _||_}
 use mathlib.Core.List.{List, [], _∷_, _++_, map, reverse, reverse-cons}
@@ -21,7 +21,7 @@ use Rattle.history.proofs.Runs.{Phase, calm, called, ended, Run, on-step, on-ca
 use Rattle.history.proofs.Stacks.{UpTo}
 use Rattle.history.proofs.Views.{reached}
 use Rattle.evaluation.specs.Steps.{Cells, Memory, top, lower, settled}
-use Rattle.evaluation.specs.Cells.{lastIs, innermost, back, begun, routineAt, cellsAt, pile, memoryAt}
+use Rattle.evaluation.specs.Cells.{lastIs, innermost, back, begun, routineAt, cellsAt, stack, memoryAt}
 use Rattle.evaluation.proofs.Backs.{isCalled, isEnded, last-of, next-event}
 use Rattle.evaluation.proofs.Growing.{routines-prefix, prior-back, events-more, events-length}
 
@@ -166,26 +166,26 @@ module _ (A : Algebra) (t : Tree) (h : List (Moment (A .Val))) (m : Moment (A .V
   new = cellsAt A t grown (suc (length h))
 
   -- the routine cells at the calls before the moment are the same after it
-  pile-same : pile A t h ≡ reverse (map (routineAt A t grown) (begun (events h)))
-  pile-same = ap reverse (sym (map-upto _ _ (length (events h)) (λ q l. routines-prefix A t h (m ∷ []) q (omega (arith, events-length h))) (begun (events h)) (begun-upto (events h))))
+  stack-same : stack A t h ≡ reverse (map (routineAt A t grown) (begun (events h)))
+  stack-same = ap reverse (sym (map-upto _ _ (length (events h)) (λ q l. routines-prefix A t h (m ∷ []) q (omega (arith, events-length h))) (begun (events h)) (begun-upto (events h))))
 
   pushed : (c : ℕ) (cs : List ℕ) → reverse (map (routineAt A t grown) (c ∷ cs)) ≡ reverse (map (routineAt A t grown) cs) ++ routineAt A t grown c ∷ []
   pushed c cs = reverse-cons (routineAt A t grown c) (map (routineAt A t grown) cs)
 
-  stays : begun (events grown) ≡ begun (events h) → back (events grown) ≡ suc (length h) → Path (Memory (A .Val)) (record { cells = new; pile = pile A t h }) (memoryAt A t grown)
-  stays q b = ap₂ {C = Memory (A .Val)} (λ c ps. record { cells = c; pile = ps }) (ap (cellsAt A t grown) (sym b)) (pile-same ∙ ap (λ cs. reverse (map (routineAt A t grown) cs)) (sym q))
+  stays : begun (events grown) ≡ begun (events h) → back (events grown) ≡ suc (length h) → Path (Memory (A .Val)) (record { cells = new; stack = stack A t h }) (memoryAt A t grown)
+  stays q b = ap₂ {C = Memory (A .Val)} (λ c ps. record { cells = c; stack = ps }) (ap (cellsAt A t grown) (sym b)) (stack-same ∙ ap (λ cs. reverse (map (routineAt A t grown) cs)) (sym q))
 
   settles : (k : EventKind) → Turned (events h) (events grown) k → back (events h) ≤ length h → (sameKind End k ≡ false → back (events grown) ≡ suc (length h)) → settled k (memoryAt A t h) new ≡ memoryAt A t grown
   settles Step q l b = stays q (b refl)
   settles Call q l b = stays q (b refl)
   settles Begin q l b =
       let old = back (events h) in
-      let piles : pile A t h ++ routineAt A t h old ∷ [] ≡ pile A t grown = ap₂ (λ ps c. ps ++ c ∷ []) pile-same (sym (routines-prefix A t h (m ∷ []) old l)) ∙ (sym (pushed old (begun (events h))) ∙ ap (λ cs. reverse (map (routineAt A t grown) cs)) (sym q)) in
-      ap₂ {C = Memory (A .Val)} (λ c ps. record { cells = c; pile = ps }) (ap (cellsAt A t grown) (sym (b refl))) piles
+      let stacks : stack A t h ++ routineAt A t h old ∷ [] ≡ stack A t grown = ap₂ (λ ps c. ps ++ c ∷ []) stack-same (sym (routines-prefix A t h (m ∷ []) old l)) ∙ (sym (pushed old (begun (events h))) ∙ ap (λ cs. reverse (map (routineAt A t grown) cs)) (sym q)) in
+      ap₂ {C = Memory (A .Val)} (λ c ps. record { cells = c; stack = ps }) (ap (cellsAt A t grown) (sym (b refl))) stacks
   settles End q l b =
       let c = back (events grown) in
-      let piles : pile A t h ≡ pile A t grown ++ routineAt A t grown c ∷ [] = pile-same ∙ (ap (λ cs. reverse (map (routineAt A t grown) cs)) q ∙ pushed c (begun (events grown))) in
-      ap₂ {C = Memory (A .Val)} (λ x ps. record { cells = record { plain = new .plain; routine = x }; pile = ps }) (ap top piles ∙ top-pushed (pile A t grown) (routineAt A t grown c)) (ap lower piles ∙ lower-pushed (pile A t grown) (routineAt A t grown c))
+      let stacks : stack A t h ≡ stack A t grown ++ routineAt A t grown c ∷ [] = stack-same ∙ (ap (λ cs. reverse (map (routineAt A t grown) cs)) q ∙ pushed c (begun (events grown))) in
+      ap₂ {C = Memory (A .Val)} (λ x ps. record { cells = record { plain = new .plain; routine = x }; stack = ps }) (ap top stacks ∙ top-pushed (stack A t grown) (routineAt A t grown c)) (ap lower stacks ∙ lower-pushed (stack A t grown) (routineAt A t grown c))
   settles Return q l b = stays q (b refl)
 
   pub remembered : (d : ℕ) → Begins d (events grown) → settled (m .event .kind) (memoryAt A t h) new ≡ memoryAt A t grown
