@@ -1,5 +1,5 @@
 -- A rule's steps, where its cells hold what looking back says: their values, and the cells after them.
-use Rattle.std.proofs.Common.{◌≡◌, ℕ, suc, ◌+◌, ◌-◌, true, false, cond, List, [], ◌∷◌, ◌++◌, map, length, get_or, sym, refl, ap, ◌∙◌, subst, ap₂, append_assoc, append-nil, arith, length-append}
+use Rattle.std.proofs.Common.{◌≡◌, ℕ, suc, ◌+◌, ◌-◌, List, [], ◌∷◌, ◌++◌, map, length, get_or, sym, refl, ap, ◌∙◌, subst, ap₂, append_assoc, append-nil, arith, length-append}
 use mathlib.Core.List.{map-append}
 use lib.ListN.{length-map}
 use Rattle.grammar.specs.Grammar.{Tree, leaf, one, two}
@@ -10,29 +10,23 @@ use Rattle.history.specs.Moments.{Moment, events, event_at, reading_at, prior}
 use Rattle.history.specs.Value.{value}
 use Rattle.history.specs.Theorems.{Plain, Along}
 use Rattle.evaluation.specs.declared.Step.{Step}
-use Rattle.evaluation.specs.Plan.{Cell, none, plain, routine, if_plain, if_routine, cell_of, own, step_of, in_order, subtrees, plain_trees, routine_trees, plain_cells, routine_cells, plan}
-use Rattle.evaluation.specs.Steps.{Cells, keeps_operand, source, sources, left_of, left, operand, in_cell, step_value, result, evaluate, fresh, fresh_of}
+use Rattle.evaluation.specs.Plan.{Cell, if_plain, if_routine, cell_of, own, step_of, in_order, subtrees, plain_trees, routine_trees, plain_cells, routine_cells, plan}
+use Rattle.evaluation.specs.Steps.{Cells, put, kept, left_of, left, operand, in_cell, step_value, result, evaluate, new_cells, fresh, fresh_of}
 use Rattle.evaluation.specs.Cells.{held}
-use Rattle.evaluation.proofs.Places.{At, at_front, at_rest, at_moved, at_own}
+use Rattle.evaluation.proofs.Places.{At, at_front, at_rest, at_moved, at_own, writes, writes_append}
 use Rattle.evaluation.proofs.Orders.{subtrees_length, plan_length, last_value}
-use Rattle.evaluation.proofs.Words.{Kin, no_cells, plains, routines, IfCell, kept, from, Own, none_does, one_does, two_does, does}
-
-sources_append : (pick : Cell → ℕ → List ℕ) (i : ℕ) (ss us : List Step) → sources pick i (ss ++ us) ≡ sources pick i ss ++ sources pick (i + length ss) us
-unfolding sources
-sources_append pick i [] us = ap (λ k. sources pick k us) (omega arith)
-sources_append pick i (s ∷ ss) us = ap (λ l. pick (cell_of s) (source s i) ++ l) (sources_append pick (suc i) ss us ∙ ap (λ k. sources pick (suc i) ss ++ sources pick k us) (omega arith)) ∙ sym (append_assoc (pick (cell_of s) (source s i)) (sources pick (suc i) ss) (sources pick (i + length (s ∷ ss)) us))
-
--- what follows from what a cell's step has
-if_cell : {P Q : Type 0} (c : Cell) → (P → Q) → IfCell c P → IfCell c Q
-if_cell none f x = tt
-if_cell (plain c) f x = f x
-if_cell (routine c) f x = f x
+use Rattle.evaluation.proofs.Words.{Kin, no_cells, plains, routines, IfCell, from, Own, none_does, one_does, two_does, does}
 
 module _ (A : Algebra) where
   pub evaluate_append : (e : Event) (r : List A.Val) (cs : Cells A.Val) (ss us : List Step) (vs : List A.Val) → evaluate A e r cs (ss ++ us) vs ≡ evaluate A e r cs us (evaluate A e r cs ss vs)
   unfolding evaluate
   evaluate_append e r cs [] us vs = refl
   evaluate_append e r cs (s ∷ ss) us vs = evaluate_append e r cs ss us (vs ++ step_value A e r cs s vs ∷ [])
+
+  pub new_cells_append : (vs : List A.Val) (i : ℕ) (ss us : List Step) (cs : Cells A.Val) → new_cells A vs i (ss ++ us) cs ≡ new_cells A vs (i + length ss) us (new_cells A vs i ss cs)
+  unfolding new_cells
+  new_cells_append vs i [] us cs = ap (λ k. new_cells A vs k us cs) (omega arith)
+  new_cells_append vs i (s ∷ ss) us cs = new_cells_append vs (suc i) ss us _ ∙ ap (λ k. new_cells A vs k us (new_cells A vs i (s ∷ ss) cs)) (omega arith)
 
   pub fresh_append : (pick : Cell → A.Val → List A.Val) (ss us : List Step) → fresh_of A pick (ss ++ us) ≡ fresh_of A pick ss ++ fresh_of A pick us
   unfolding fresh_of
@@ -44,6 +38,12 @@ module _ (A : Algebra) where
   reads no_cells cs f g u p q = refl
   reads plains cs f g u p q = p.0
   reads routines cs f g u p q = q.0
+
+  -- and writes its own cell
+  puts : {a b : ℕ} {c k : Cell} → Kin a b c k → (cs : Cells A.Val) (v : A.Val) (f : Tree → A.Val) (u : Tree) → IfCell c (v ≡ f u) → put c v cs ≡ record { plain = writes cs.plain a (map f (if_plain k u)); routine = writes cs.routine b (map f (if_routine k u)) }
+  puts no_cells cs v f u q = refl
+  puts {a = a} plains cs v f u q = ap (λ x. put (Cell.plain a) x cs) q
+  puts {b = b} routines cs v f u q = ap (λ x. put (Cell.routine b) x cs) q
 
 module _ (A : Algebra) (h : List (Moment A.Val)) (n : ℕ) (P : Plain A n) (R : Along A (events h) n (prior (events h) (suc n))) where
   abbrev pub p : ℕ
@@ -130,53 +130,57 @@ module _ (A : Algebra) (h : List (Moment A.Val)) (n : ℕ) (P : Plain A n) (R : 
       let both : evaluate A e r cs (plan (k + size t) a' b' t' ++ s ∷ []) (vs ++ us) ≡ (vs ++ us) ++ map val (subtrees t' ++ u ∷ []) = evaluate_append A e r cs (plan (k + size t) a' b' t') (s ∷ []) (vs ++ us) ∙ (ap (evaluate A e r cs (s ∷ [])) second ∙ (ap (λ v. ws ++ v ∷ []) last ∙ one_more (vs ++ us) (subtrees t') u)) in
       evaluate_append A e r cs (plan k a b t) (plan (k + size t) a' b' t' ++ s ∷ []) vs ∙ (ap (evaluate A e r cs (plan (k + size t) a' b' t' ++ s ∷ [])) first ∙ (both ∙ (append_assoc vs us _ ∙ ap (λ l. vs ++ l) (sym (map-append val (subtrees t) (subtrees t' ++ u ∷ []))))))
 
+  -- the cells of these trees as they are after the event
+  abbrev pub written : Cells A.Val → ℕ → ℕ → List Tree → List Tree → Cells A.Val
+  written cs a b us ws = record { plain = writes cs.plain a (map (held A h (suc n)) us); routine = writes cs.routine b (map (held A h (suc n)) ws) }
+
+  writes_both : (l : List A.Val) (a : ℕ) (us us' : List Tree) → writes (writes l a (map (held A h (suc n)) us)) (a + length us) (map (held A h (suc n)) us') ≡ writes l a (map (held A h (suc n)) (us ++ us'))
+  writes_both l a us us' =
+      let f = held A h (suc n) in
+      ap (λ k. writes (writes l a (map f us)) (a + k) (map f us')) (sym (length-map us f)) ∙ (sym (writes_append l a (map f us) (map f us')) ∙ ap (writes l a) (sym (map-append f us us')))
+
+  written_both : (cs : Cells A.Val) (a b : ℕ) (us us' ws ws' : List Tree) → written (written cs a b us ws) (a + length us) (b + length ws) us' ws' ≡ written cs a b (us ++ us') (ws ++ ws')
+  written_both cs a b us us' ws ws' = ap₂ (λ x y. record { plain = x; routine = y }) (writes_both cs.plain a us us') (writes_both cs.routine b ws ws')
+
+  own_renewed : (u : Tree) (l a b : ℕ) (cs : Cells A.Val) (vs : List A.Val) (i : ℕ) → Ready (λ j. get_or vs j A.false) (get_or vs (i - 1) A.false) l u → get_or vs i A.false ≡ val u → new_cells A vs i (own l a b u ∷ []) cs ≡ written cs a b (if_plain (cell_of (step_of u)) u) (if_routine (cell_of (step_of u)) u)
+  unfolding new_cells
+  own_renewed u l a b cs vs i q v =
+      let o = own_node u l a b (λ j. get_or vs j A.false) (get_or vs (i - 1) A.false) q in
+      let s = own l a b u in
+      ap (λ x. put (cell_of s) (kept s (get_or vs (i - 1) A.false) x) cs) v ∙ puts A o.kin cs _ (held A h (suc n)) u o.keeps
+
   values_front : (vs : List A.Val) (k : ℕ) (us ws : List Tree) → At A.false vs k (map val (us ++ ws)) → At A.false vs k (map val us)
   values_front vs k us ws g = at_front A.false vs _ _ k (subst (At A.false vs k) (map-append val us ws) g)
 
   values_rest : (vs : List A.Val) (k : ℕ) (t : Tree) (ws : List Tree) → At A.false vs k (map val (subtrees t ++ ws)) → At A.false vs (k + size t) (map val ws)
   values_rest vs k t ws g = at_moved A.false vs _ (ap (λ i. k + i) (length-map (subtrees t) val ∙ subtrees_length t)) (at_rest A.false vs _ _ k (subst (At A.false vs k) (map-append val (subtrees t) ws) g))
 
-  -- the cells that are picked, as they are after the event, by steps and by trees
-  module _ (pick : Cell → ℕ → List ℕ) (pickTree : Cell → Tree → List Tree) (picks : (a b : ℕ) (c k : Cell) → Kin a b c k → (f : Tree → A.Val) (g : ℕ → A.Val) (i : ℕ) (u : Tree) → IfCell c (g i ≡ f u) → map g (pick c i) ≡ map f (pickTree k u)) (vs : List A.Val) where
-    abbrev at : ℕ → A.Val
-    at k = get_or vs k A.false
+  -- the steps of a tree, and then others
+  then : (t : Tree) (k a b : ℕ) (ss : List Step) (cs : Cells A.Val) (vs : List A.Val) → new_cells A vs k (plan k a b t ++ ss) cs ≡ new_cells A vs (k + size t) ss (new_cells A vs k (plan k a b t) cs)
+  then t k a b ss cs vs = new_cells_append A vs k (plan k a b t) ss cs ∙ ap (λ i. new_cells A vs (k + i) ss (new_cells A vs k (plan k a b t) cs)) (plan_length k a b t)
 
-    at_source : (s : Step) (i : ℕ) → at (source s i) ≡ kept s (at (i - 1)) (at i)
-    at_source s i = elim (keeps_operand s) as (λ b. at (cond b (i - 1) i) ≡ cond b (at (i - 1)) (at i)) [ true ↦ refl | false ↦ refl ]
-
-    own_renewed : (u : Tree) (l a b i : ℕ) → Ready at (at (i - 1)) l u → at i ≡ val u → map at (sources pick i (own l a b u ∷ [])) ≡ map (held A h (suc n)) (pickTree (cell_of (step_of u)) u)
-    unfolding sources
-    own_renewed u l a b i q v =
-        let o = own_node u l a b at (at (i - 1)) q in
-        let s = own l a b u in
-        ap (map at) (append-nil (pick (cell_of s) (source s i))) ∙ picks a b _ _ o.kin (held A h (suc n)) at (source s i) u (if_cell (cell_of s) (λ e. at_source s i ∙ (ap (kept s (at (i - 1))) v ∙ e)) o.keeps)
-
-    -- the steps of a tree, and then others
-    then : (t : Tree) (k a b : ℕ) (ss : List Step) → map at (sources pick k (plan k a b t ++ ss)) ≡ map at (sources pick k (plan k a b t)) ++ map at (sources pick (k + size t) ss)
-    then t k a b ss = ap (map at) (sources_append pick k (plan k a b t) ss ∙ ap (λ i. sources pick k (plan k a b t) ++ sources pick (k + i) ss) (plan_length k a b t)) ∙ map-append at (sources pick k (plan k a b t)) (sources pick (k + size t) ss)
-
-    pub renewed : (t : Tree) (k a b : ℕ) → At A.false vs k (map val (subtrees t)) → map at (sources pick k (plan k a b t)) ≡ map (held A h (suc n)) (in_order (λ u. pickTree (cell_of (step_of u)) u) t)
-    unfolding plan in_order
-    renewed (leaf w) k a b g = own_renewed (leaf w) 0 a b k tt g.0
-    renewed (one w t) k a b g =
-        let s = own 0 (a + plain_cells t) (b + routine_cells t) (one w t) in
-        let front = values_front vs k (subtrees t) _ g in
-        let rest = values_rest vs k t (one w t ∷ []) g in
-        then t k a b (s ∷ []) ∙ (ap₂ ◌++◌ (renewed t k a b front) (own_renewed (one w t) 0 (a + plain_cells t) (b + routine_cells t) (k + size t) (last_value A.false val vs k t front) rest.0) ∙ sym (map-append (held A h (suc n)) (in_order (λ u. pickTree (cell_of (step_of u)) u) t) _))
-    renewed (two w t t') k a b g =
-        let own-trees : Tree → List Tree = λ u. pickTree (cell_of (step_of u)) u in
-        let u = two w t t' in
-        let a' = a + plain_cells t in
-        let b' = b + routine_cells t in
-        let k' = k + size t in
-        let s = own (k + size t - 1) (a' + plain_cells t') (b' + routine_cells t') u in
-        let front = values_front vs k (subtrees t) _ g in
-        let rest = values_rest vs k t (subtrees t' ++ u ∷ []) g in
-        let front' = values_front vs k' (subtrees t') _ rest in
-        let rest' = values_rest vs k' t' (u ∷ []) rest in
-        let last = own_renewed u (k + size t - 1) (a' + plain_cells t') (b' + routine_cells t') (k' + size t') (last_value A.false val vs k t front, last_value A.false val vs k' t' front') rest'.0 in
-        let right = then t' k' a' b' (s ∷ []) ∙ (ap₂ ◌++◌ (renewed t' k' a' b' front') last ∙ sym (map-append (held A h (suc n)) (in_order own-trees t') (own-trees u))) in
-        then t k a b (plan k' a' b' t' ++ s ∷ []) ∙ (ap₂ ◌++◌ (renewed t k a b front) right ∙ sym (map-append (held A h (suc n)) (in_order own-trees t) (in_order own-trees t' ++ own-trees u)))
+  pub renewed : (t : Tree) (k a b : ℕ) (cs : Cells A.Val) (vs : List A.Val) → At A.false vs k (map val (subtrees t)) → new_cells A vs k (plan k a b t) cs ≡ written cs a b (plain_trees t) (routine_trees t)
+  unfolding plan in_order
+  renewed (leaf w) k a b cs vs g = own_renewed (leaf w) 0 a b cs vs k tt g.0
+  renewed (one w t) k a b cs vs g =
+      let s = own 0 (a + plain_cells t) (b + routine_cells t) (one w t) in
+      let front = values_front vs k (subtrees t) _ g in
+      let rest = values_rest vs k t (one w t ∷ []) g in
+      then t k a b (s ∷ []) cs vs ∙ (ap (new_cells A vs (k + size t) (s ∷ [])) (renewed t k a b cs vs front) ∙ (own_renewed (one w t) 0 (a + plain_cells t) (b + routine_cells t) _ vs (k + size t) (last_value A.false val vs k t front) rest.0 ∙ written_both cs a b (plain_trees t) _ (routine_trees t) _))
+  renewed (two w t t') k a b cs vs g =
+      let u = two w t t' in
+      let a' = a + plain_cells t in
+      let b' = b + routine_cells t in
+      let k' = k + size t in
+      let s = own (k + size t - 1) (a' + plain_cells t') (b' + routine_cells t') u in
+      let front = values_front vs k (subtrees t) _ g in
+      let rest = values_rest vs k t (subtrees t' ++ u ∷ []) g in
+      let front' = values_front vs k' (subtrees t') _ rest in
+      let rest' = values_rest vs k' t' (u ∷ []) rest in
+      let cs' = written cs a b (plain_trees t) (routine_trees t) in
+      let last = own_renewed u (k + size t - 1) (a' + plain_cells t') (b' + routine_cells t') (written cs' a' b' (plain_trees t') (routine_trees t')) vs (k' + size t') (last_value A.false val vs k t front, last_value A.false val vs k' t' front') rest'.0 in
+      let both : new_cells A vs k' (plan k' a' b' t' ++ s ∷ []) cs' ≡ written cs' a' b' (plain_trees t' ++ if_plain (cell_of (step_of u)) u) (routine_trees t' ++ if_routine (cell_of (step_of u)) u) = then t' k' a' b' (s ∷ []) cs' vs ∙ (ap (new_cells A vs (k' + size t') (s ∷ [])) (renewed t' k' a' b' cs' vs front') ∙ (last ∙ written_both cs' a' b' (plain_trees t') _ (routine_trees t') _)) in
+      then t k a b (plan k' a' b' t' ++ s ∷ []) cs vs ∙ (ap (new_cells A vs k' (plan k' a' b' t' ++ s ∷ [])) (renewed t k a b cs vs front) ∙ (both ∙ written_both cs a b (plain_trees t) _ (routine_trees t) _))
 
   -- the fresh cells that are picked, by steps and by trees
   module _ (pick : Cell → A.Val → List A.Val) (pickTree : Cell → Tree → List Tree) (picks : (a b : ℕ) (c k : Cell) → Kin a b c k → (f : Tree → A.Val) (v : A.Val) (u : Tree) → IfCell c (v ≡ f u) → pick c v ≡ map f (pickTree k u)) where

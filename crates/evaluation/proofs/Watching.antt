@@ -16,7 +16,7 @@ use Rattle.evaluation.specs.Plan.{Cell, if_plain, if_routine, subtrees, plain_tr
 use Rattle.evaluation.specs.Steps.{Cells, Memory, settled, evaluate, new_cells}
 use Rattle.evaluation.specs.Cells.{held, cells_at, back, memory_at}
 use Rattle.evaluation.specs.Theorems.{Fresh, Evaluates, values_at}
-use Rattle.evaluation.proofs.Places.{At, at_own}
+use Rattle.evaluation.proofs.Places.{At, at_own, writes, writes_all}
 use Rattle.evaluation.proofs.Orders.{last_value}
 use Rattle.evaluation.proofs.Words.{Kin, no_cells, plains, routines, IfCell}
 use Rattle.evaluation.proofs.Running.{e, r, Holds, evaluates, renewed, freshly}
@@ -35,17 +35,6 @@ pick_routine : (A : Algebra) (a b : ℕ) (c k : Cell) → Kin a b c k → (f : T
 pick_routine A a b c k no_cells f v u q = refl
 pick_routine A a b c k plains f v u q = refl
 pick_routine A a b c k routines f v u q = ap {B = List A.Val} (λ x. x ∷ []) q
-
--- the same of the places of values
-place_plain : (A : Algebra) (a b : ℕ) (c k : Cell) → Kin a b c k → (f : Tree → A.Val) (g : ℕ → A.Val) (i : ℕ) (u : Tree) → IfCell c (g i ≡ f u) → map g (if_plain c i) ≡ map f (if_plain k u)
-place_plain A a b c k no_cells f g i u q = refl
-place_plain A a b c k plains f g i u q = ap {B = List A.Val} (λ x. x ∷ []) q
-place_plain A a b c k routines f g i u q = refl
-
-place_routine : (A : Algebra) (a b : ℕ) (c k : Cell) → Kin a b c k → (f : Tree → A.Val) (g : ℕ → A.Val) (i : ℕ) (u : Tree) → IfCell c (g i ≡ f u) → map g (if_routine c i) ≡ map f (if_routine k u)
-place_routine A a b c k no_cells f g i u q = refl
-place_routine A a b c k plains f g i u q = refl
-place_routine A a b c k routines f g i u q = ap {B = List A.Val} (λ x. x ∷ []) q
 
 pub fresh_first : (A : Algebra) → Laws A → Fresh A
 unfolding numbered events calls
@@ -90,8 +79,11 @@ evaluated A L t d h m b = record { nodes = nodes; rule = rule; cells = cells; me
     rule : get_or (values_at A t h m) (size t - 1) A.false ≡ value A t h' (suc n)
     rule = ap₂ (λ vs i. get_or vs i A.false) nodes (omega arith) ∙ last_value A.false (λ u. value A u h' (suc n)) vals 0 t (at_all A.false vals)
 
+    overwritten : (q : ℕ) (us : List Tree) → writes (map (held A h' q) us) 0 (map (held A h' (suc n)) us) ≡ map (held A h' (suc n)) us
+    overwritten q us = writes_all [] (map (held A h' q) us) (map (held A h' (suc n)) us) 0 refl (length-map us (held A h' q) ∙ sym (length-map us (held A h' (suc n))))
+
     longer : suc n ≡ length h'
     longer = omega (arith, length-append h (m ∷ []))
 
-    cells : new_cells A (values_at A t h m) (rule_plan t) ≡ cells_at A t h' (suc n)
-    cells = ap (λ vs. new_cells A vs (rule_plan t)) nodes ∙ (ap₂ {C = Cells A.Val} (λ x y. record { plain = x; routine = y }) (renewed A h' n P R if_plain if_plain (place_plain A) vals t 0 0 0 (at_all A.false vals)) (renewed A h' n P R if_routine if_routine (place_routine A) vals t 0 0 0 (at_all A.false vals)) ∙ ap (λ k. record { plain = map (held A h' k) (plain_trees t); routine = map (held A h' (suc n)) (routine_trees t) }) longer)
+    cells : new_cells A (values_at A t h m) 0 (rule_plan t) (cells_at A t h (back (events h))) ≡ cells_at A t h' (suc n)
+    cells = ap₂ (λ vs c. new_cells A vs 0 (rule_plan t) c) nodes old ∙ (renewed A h' n P R t 0 0 0 cs vals (at_all A.false vals) ∙ (ap₂ {C = Cells A.Val} (λ x y. record { plain = x; routine = y }) (overwritten n (plain_trees t)) (overwritten p (routine_trees t)) ∙ ap (λ k. record { plain = map (held A h' k) (plain_trees t); routine = map (held A h' (suc n)) (routine_trees t) }) longer))

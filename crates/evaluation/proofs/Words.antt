@@ -11,7 +11,7 @@ use Rattle.history.specs.Value.{Sense, of_event, of_one, of_two, earlier, before
 use Rattle.history.specs.Theorems.{Plain, Along}
 use Rattle.evaluation.specs.declared.Step.{Step as RuleStep}
 use Rattle.evaluation.specs.Plan.{Cell, none, plain, routine, cell_of, Form, from_number, from_one, from_two, form, step_of_none, step_of_one, step_of_two}
-use Rattle.evaluation.specs.Steps.{left_of, keeps_operand, result, fresh}
+use Rattle.evaluation.specs.Steps.{left_of, keeps_operand, kept, result, fresh}
 
 -- the two cells are alike, and the first has the number a where it is plain, b where it is routine
 pub data Kin (a b : ℕ) : Cell → Cell → Type 0 where
@@ -23,10 +23,6 @@ abbrev pub IfCell : Cell → Type 0 → Type 0
 IfCell none P = Unit {0}
 IfCell (plain c) P = P
 IfCell (routine c) P = P
-
--- the step's cell keeps one of the operand's value x and its own v
-abbrev pub kept : {V : Type 0} → RuleStep → V → V → V
-kept s x v = cond (keeps_operand s) x v
 
 module _ (A : Algebra) where
   -- what is held at the last event in a plain cell, at the event that is looked back to in a routine cell

@@ -34,7 +34,7 @@ module _ (A : Algebra) where
 
   -- the new cells of the rule at the moment m after the history h
   abbrev pub new_cells_at : Tree → List (Moment A.Val) → Moment A.Val → Cells A.Val
-  new_cells_at t h m = new_cells A (values_at t h m) (rule_plan t)
+  new_cells_at t h m = new_cells A (values_at t h m) 0 (rule_plan t) (memory_at A t h).cells
 
   pub record Evaluated (t : Tree) (h : List (Moment A.Val)) (m : Moment A.Val) : Type 0 where
     pub nodes : values_at t h m ≡ map (λ u. value A u (h ++ m ∷ []) (suc (length h))) (subtrees t)

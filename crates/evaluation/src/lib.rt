@@ -1,4 +1,6 @@
 // A rule as a watcher runs it, and why that is looking back: the steps of a rule, the values that they keep, and theorems.
+#![tactic(auto)]
+
 ghost use Rattle.evaluation.specs.Theorems.{LooksBack, BegunOpened, Fresh, Evaluates};
 
 use kinds::TruthKind;
@@ -12,7 +14,7 @@ pub enum Step {
     True,
     False,
     Kind(EventKind),
-    Predicate(u16),
+    Predicate(u8),
     Routine(u16),
     Not,
     And(u8),

@@ -1,4 +1,6 @@
 // The program: a rule comes in on standard input, and its line goes out on standard output.
+#![tactic(auto)]
+
 ghost use Rattle.std.specs.Prelude.{◌≤◌, length, IfOk};
 
 use listing::{MAX_INPUT, MAX_LINE, answer};

@@ -1,4 +1,6 @@
 // What a rule text is made of: its tokens, its nodes, its limits, and the ways in which it is refused.
+#![tactic(auto)]
+
 ghost use Rattle.std.specs.Prelude.{◌≡◌};
 ghost use Rattle.grammar.specs.Faults.{number, place};
 

@@ -1,3 +1,4 @@
+pub mod Worked
 pub mod Folds
 pub mod Alike
 pub mod Related

@@ -1,5 +1,8 @@
 // What a rule's value is at an event: looking back over the events before it. Definitions and theorems, no code.
+#![tactic(auto)]
+
 ghost use Rattle.history.specs.Theorems.{Prefix, Carried, Recurrences, SeenFrom, OpenCounts, Matching, NestMatching};
+ghost use Rattle.history.specs.Example.{Worked};
 
 use kinds::TruthKind;
 
@@ -24,6 +27,13 @@ pub fn looking_back_stands<K: TruthKind>() -> u8
 // A theorem about two kinds: what keeps the five operations carries every rule's values.
 pub fn carrying_stands<K: TruthKind, L: TruthKind>() -> u8
     ensures carried { Carried K.TruthKind.algebra L.TruthKind.algebra }
+{
+    0
+}
+
+// Two rules worked out along a reel.
+pub fn example_stands() -> u8
+    ensures worked { Worked }
 {
     0
 }

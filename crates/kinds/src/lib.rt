@@ -1,4 +1,6 @@
 // Truth kinds: values that can be true, false, negated and joined, each kind shown to keep the same laws.
+#![tactic(auto)]
+
 pub mod kind;
 pub mod margin;
 pub mod pair;

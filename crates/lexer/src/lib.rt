@@ -1,4 +1,6 @@
 // Cuts a rule text into tokens, one at a time.
+#![tactic(auto)]
+
 ghost use Rattle.std.specs.Prelude.{◌≡◌, ◌<◌, ◌≤◌, [], ◌∷◌, length, OnErr};
 ghost use Rattle.grammar.specs.Limits.{max_text};
 ghost use Rattle.grammar.specs.Machine.{items};

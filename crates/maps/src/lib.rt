@@ -1,4 +1,6 @@
 // Carrying maps: each takes the values of one kind to values of another and keeps all five answers.
+#![tactic(auto)]
+
 pub mod into_three;
 pub mod map;
 pub mod parts;

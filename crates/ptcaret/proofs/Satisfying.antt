@@ -19,7 +19,7 @@ use Rattle.reels.specs.Reels.{Begins}
 use Rattle.reels.specs.declared.Event.{Event}
 use Rattle.reels.specs.declared.EventKind.{EventKind}
 use Rattle.history.specs.Moments.{blank, events, readings, numbered, event_at, reading_at, is, over, prior}
-use Rattle.history.specs.Value.{Sense, of_event, of_one as one_value, of_two as two_values, before, sense, on_none as value_None, on_one as value_one, on_two as value_two, value}
+use Rattle.history.specs.Value.{Sense, of_event, of_one as one_value, of_two as two_values, before, sense, on_none as value_none, on_one as value_one, on_two as value_two, value}
 use Rattle.history.specs.Theorems.{Plain, Along}
 use Rattle.history.proofs.Alike.{prior_le}
 use Rattle.history.proofs.Looking.{recurrences}
@@ -117,7 +117,7 @@ module _ (h : Trace) (d : ℕ) (b : Begins d (events h)) where
   word_fits SinceWord = fit_two (λ f g F G a c. since_agrees past _ a c refl (λ n. (plain n).since F G))
   word_fits Rsince = fit_two (λ f g F G a c. since_agrees abstract_past _ a c refl (λ n. (along n).rsince F G))
 
-  none_fits : {m : Meaning} {s : Sense Bool} → Fits h m s → (k : ℕ) → Agrees h (on_none m k) (λ i. value_None two_valued s k (event_at (events h) i) (reading_at h i))
+  none_fits : {m : Meaning} {s : Sense Bool} → Fits h m s → (k : ℕ) → Agrees h (on_none m k) (λ i. value_none two_valued s k (event_at (events h) i) (reading_at h i))
   none_fits (fit_none e) k = e k
   none_fits (fit_one e) k = falsehood_agrees
   none_fits (fit_two e) k = falsehood_agrees

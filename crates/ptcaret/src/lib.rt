@@ -1,4 +1,6 @@
 // The past-time logic of calls and returns, and a rule's value in it. Definitions and theorems, no code.
+#![tactic(auto)]
+
 ghost use Rattle.ptcaret.specs.Theorems.{ValueIsSatisfaction, AbstractPrefixIsPrior};
 
 // Theorems: a rule's two_valued value by looking back is whether the trace so far satisfies the rule,

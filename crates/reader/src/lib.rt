@@ -1,4 +1,6 @@
 // Reads a rule text into a rule.
+#![tactic(auto)]
+
 ghost use Rattle.std.specs.Prelude.{◌≡◌, ◌+◌, ◌<◌, ◌≤◌, [], ◌∷◌, ◌++◌, length, Err as failed, MatchResult};
 ghost use Rattle.grammar.specs.Limits.{max_words};
 ghost use Rattle.grammar.specs.Nodes.{node};

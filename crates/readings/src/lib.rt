@@ -1,4 +1,6 @@
 // Reading sources: each means a list of at most 64 values of one truth kind, and answers how long it is and which value stands where.
+#![tactic(auto)]
+
 pub mod carried;
 mod front;
 pub mod gauge;

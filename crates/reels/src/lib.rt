@@ -1,4 +1,6 @@
 // Events, and which lists of them are well nested.
+#![tactic(auto)]
+
 ghost use Rattle.std.specs.Prelude.{◌≡◌};
 ghost use Rattle.reels.specs.Reels.{fit, DepthIsMost};
 ghost use Rattle.reels.specs.Nesting.{TakenBegins, RefusedExactly, TooDeepExactly};

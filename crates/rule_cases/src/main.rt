@@ -1,5 +1,7 @@
 // Answers each line of standard input as an input of its own, and then a few inputs that are no line: what is printed is
 // held to the file `stdout`.
+#![tactic(auto)]
+
 use listing::{MAX_INPUT, MAX_LINE, answer, first_line, refusal_line};
 use std::io;
 use std::io::{Read, Write};

@@ -1,4 +1,6 @@
 // A bounded stack over a lent slice, for elements of every copyable type.
+#![tactic(auto)]
+
 mod calls;
 
 ghost use Rattle.std.specs.Prelude.{◌≡◌, ◌≤◌, min, length};

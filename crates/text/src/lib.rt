@@ -1,4 +1,6 @@
 // Text in lent memory: one call that writes a text, and what texts are built from.
+#![tactic(auto)]
+
 ghost use Rattle.std.specs.Prelude.{◌≡◌};
 ghost use Rattle.text.specs.Writing.{Written, number_of, place_of};
 

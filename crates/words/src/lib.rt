@@ -1,4 +1,6 @@
 // The words of the rule language, in one table that the lexer, the reader and the writer read.
+#![tactic(auto)]
+
 ghost use Rattle.std.specs.Prelude.{◌≡◌, true, false, map, Some as found, MatchOption};
 ghost use Rattle.words.specs.Words.{text, operands, numbering, bare, within, Names};
 ghost use Rattle.words.specs.Lookup.{starts_number, numbered, value_up_to, with_digit, numbering_of, line, line_of, fit, seek, lookup};

@@ -1,4 +1,6 @@
 // Writes a rule out.
+#![tactic(auto)]
+
 ghost use Rattle.std.specs.Prelude.{◌≡◌, ◌<◌, ◌≤◌, length};
 ghost use Rattle.words.specs.Words.{spell};
 ghost use Rattle.grammar.specs.Grammar.{Tree};
