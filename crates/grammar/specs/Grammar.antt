@@ -1,7 +1,7 @@
 -- The grammar of rules: which tokens are a rule, and the tree that they write.
 --   Tree                   a rule's words with their operands
 --   Reads ok d part ts t   the tokens ts are a rule or a unit that writes the tree t, inside d open parentheses and
---                          unfinished one_sided words; `ok` says which depths are allowed
+--                          unfinished one-sided words; `ok` says which depths are allowed
 --   Begins ok ts           some rule begins with the tokens ts
 --   words ts               how many of the tokens are words
 use Rattle.std.specs.Prelude.{◌≡◌, ℕ, suc, ◌+◌, ◌≤◌, List, [], ◌∷◌, ◌++◌}
@@ -22,8 +22,8 @@ pub data Tree : Type 0 where
 abbrev pub takes : Word → Operands
 takes w = operands w.operator
 
--- a rule is a unit, or two units with a two_sided word between them;
--- a unit is a leaf, a one_sided word and a unit, or a rule in parentheses
+-- a rule is a unit, or two units with a two-sided word between them;
+-- a unit is a leaf, a one-sided word and a unit, or a rule in parentheses
 pub data Part : Type 0 where
   rule unit : Part
 

@@ -1,5 +1,5 @@
--- How a tree is written out: a one_sided word, a space and its unit; a two_sided word with a space on each side;
--- an operand with a two_sided word at its top in parentheses; nothing else.
+-- How a tree is written out: a one-sided word, a space and its unit; a two-sided word with a space on each side;
+-- an operand with a two-sided word at its top in parentheses; nothing else.
 use Rattle.std.specs.Prelude.{ℕ, List, [], ◌∷◌, ◌++◌}
 use Rattle.words.specs.Words.{spell}
 use Rattle.grammar.specs.Grammar.{Tree, leaf, one, two}

@@ -1,6 +1,6 @@
 -- The limits of a rule text.
 --   max_text       the most bytes
---   max_depth      the most open parentheses and unfinished one_sided words at a token, itself included
+--   max_depth      the most open parentheses and unfinished one-sided words at a token, itself included
 --   max_words      the most words
 use Rattle.std.specs.Prelude.{ℕ}
 

@@ -46,7 +46,7 @@ pub data Context : Part → Type 0 where
   second : Word → Tree → Context rule → Context unit
   under : Word → Context unit → Context unit
 
--- open parentheses and unfinished one_sided words
+-- open parentheses and unfinished one-sided words
 unfoldable pub depth : {p : Part} → Context p → ℕ
 depth whole = 0
 depth (inside K) = suc (depth K)

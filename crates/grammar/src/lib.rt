@@ -9,7 +9,7 @@ use words::Word;
 // The longest text that is read, in bytes.
 pub const MAX_TEXT: usize = 1024;
 
-// How many parentheses and unfinished one_sided words a token may lie in, itself included.
+// How many parentheses and unfinished one-sided words a token may lie in, itself included.
 pub const MAX_DEPTH: usize = 16;
 
 // How many words a rule may have.
@@ -23,7 +23,7 @@ pub enum Token {
     Word(Word),
 }
 
-// A node of a rule: its word and, for a two_sided word, the place of its left operand, else 0.
+// A node of a rule: its word and, for a two-sided word, the place of its left operand, else 0.
 // The right or only operand is the node just before.
 #[derive(Clone, Copy)]
 pub struct Node {

@@ -1,5 +1,5 @@
 -- The words that values are written as.
---   two_text b         of a two_valued value
+--   two_text b         of a two-valued value
 --   three_text x       of a three-valued value
 use Rattle.std.specs.Prelude.{ℕ, Bool, true, false, List, codes}
 use Rattle.kinds.specs.declared.three.Three.{Three}

@@ -1,4 +1,4 @@
-// The texts of the two_valued and the three-valued kind: one word each.
+// The texts of the two-valued and the three-valued kind: one word each.
 ghost use Rattle.kind_texts.specs.Words.{two_text, three_text};
 ghost use Rattle.kinds.specs.Two.{two_means};
 ghost use Rattle.std.proofs.Common.{rules};

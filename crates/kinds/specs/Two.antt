@@ -1,4 +1,4 @@
--- The two_valued kind.
+-- The two-valued kind.
 --   two              true, false and the operations of Bool
 --   two_means x      whether x is yes
 use Rattle.std.specs.Prelude.{Bool, true, false, not, ◌&&◌, ◌||◌}

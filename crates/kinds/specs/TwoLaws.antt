@@ -1,4 +1,4 @@
--- That the two_valued kind keeps the laws, as its impl has to show.
+-- That the two-valued kind keeps the laws, as its impl has to show.
 use Rattle.std.proofs.Math.Bool
 use Rattle.std.specs.Prelude.{true, false, refl}
 use Rattle.std.proofs.Common.{true≢false}

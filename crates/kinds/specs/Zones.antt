@@ -1,7 +1,7 @@
 -- The zone kind: for each of 64 zones, whether it holds.
 --   Zone               one of the 64 zones
 --   everywhere I a     the algebra a at each place of I
---   zones              two_valued at each zone
+--   zones              two-valued at each zone
 --   bit n i            bit i of a number, bit 0 the lowest
 --   zones_means w      bit i of the word says whether zone i holds
 use Rattle.std.specs.Prelude.{ℕ, ◌/◌, ◌%◌, ◌^◌, ◌<◌, Bool, ◌==◌}

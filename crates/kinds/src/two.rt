@@ -1,4 +1,4 @@
-// The two_valued kind: no and yes.
+// The two-valued kind: no and yes.
 ghost use Rattle.kinds.specs.Two.{two, two_means};
 ghost use Rattle.kinds.specs.TwoLaws.{two_laws};
 

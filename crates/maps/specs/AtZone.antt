@@ -1,4 +1,4 @@
--- One zone to two_valued.
+-- One zone to two-valued.
 --   two_of b       yes where b is true
 --   asked m w     whether the zone that m asks for holds in the word w
 --   Asks n r      r is the map that asks for zone n, or nothing where there is no zone n

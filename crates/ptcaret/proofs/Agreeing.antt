@@ -2,7 +2,7 @@
 --   Agrees h f F       the first n + 1 states of h satisfy f exactly where F is true at event n + 1
 --   Steps              a way of cutting a trace back, and the event where it leads
 use Prim.Native.Nat.{ℕ, zero, suc, ◌≤◌, ◌<◌}
-use mathlib.Core.Bool.{Bool, true, false, ◌&&◌, ◌||◌, not_not}
+use mathlib.Core.Bool.{Bool, true, false, ◌&&◌, ◌||◌, not-not}
 use mathlib.Core.Bool as B
 use mathlib.Core.List.{[]}
 use mathlib.Core.Path.{◌≡◌, refl, sym, ap, ap₂, subst, ◌∙◌}
@@ -50,13 +50,13 @@ module _ {h : Trace} where
     where
       same : (x y : Bool) → B.not (B.not x && B.not y) ≡ (x || y)
       same true y = refl
-      same false y = not_not y
+      same false y = not-not y
 
   pub implies_agrees : {f g : Formula} {F G : ℕ → Bool} → Agrees h f F → Agrees h g G → Agrees h (implies f g) (λ i. B.not (F i) || G i)
   implies_agrees {F = F} {G = G} a b = agrees_same (λ n. same (F (suc n)) (G (suc n))) (not_agrees (and_agrees a (not_agrees b)))
     where
       same : (x y : Bool) → B.not (x && B.not y) ≡ (B.not x || y)
-      same true y = not_not y
+      same true y = not-not y
       same false y = refl
 
 pub record Steps (h : Trace) (Back : Trace → Trace → Type 0) (p : ℕ → ℕ) : Type 0 where
@@ -131,7 +131,7 @@ module _ {h : Trace} {Back : Trace → Trace → Type 0} {p : ℕ → ℕ} (S : 
     once_agrees start on = since_agrees V truth_agrees a start on
 
     pub always_agrees : V 0 ≡ true → ((n : ℕ) → V (suc n) ≡ (F (suc n) && V (p (suc n)))) → Agrees h (always Back f) V
-    always_agrees start on = agrees_same (λ n. not_not (V (suc n))) (not_agrees (since_agrees (λ i. B.not (V i)) truth_agrees (not_agrees a) (ap B.not start) (λ n. ap B.not (on n) ∙ same (F (suc n)) (V (p (suc n))))))
+    always_agrees start on = agrees_same (λ n. not-not (V (suc n))) (not_agrees (since_agrees (λ i. B.not (V i)) truth_agrees (not_agrees a) (ap B.not start) (λ n. ap B.not (on n) ∙ same (F (suc n)) (V (p (suc n))))))
       where
         same : (x y : Bool) → B.not (x && y) ≡ (B.not x || B.not y)
         same true y = refl

@@ -1,4 +1,4 @@
--- A rule's two_valued value is satisfaction.
+-- A rule's two-valued value is satisfaction.
 --   Fits       a word's meaning in the logic and in values agree
 use Prim.Native.Nat.{ℕ, suc}
 use mathlib.Core.Bool.{Bool, true, false, cond}

@@ -3,7 +3,7 @@
 
 ghost use Rattle.ptcaret.specs.Theorems.{ValueIsSatisfaction, AbstractPrefixIsPrior};
 
-// Theorems: a rule's two_valued value by looking back is whether the trace so far satisfies the rule,
+// Theorems: a rule's two-valued value by looking back is whether the trace so far satisfies the rule,
 // and the two ways to find the call of a return agree.
 pub fn published_meaning_stands() -> u8
     ensures stands { ValueIsSatisfaction }

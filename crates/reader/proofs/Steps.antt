@@ -95,7 +95,7 @@ pub had_two : (t : Tree) (K : Context rule) (w : Word) → takes w ≡ Two → s
 unfolding step
 had_two t K w e = ap (λ x. had_word x w t K) e
 
--- a token that is no two_sided word
+-- a token that is no two-sided word
 abbrev pub NoTwo : Token → Type 0
 NoTwo Open = Unit {0}
 NoTwo Close = Unit {0}

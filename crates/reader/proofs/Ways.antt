@@ -91,7 +91,7 @@ two_many n p k t K w xs e d many = too_many n p k (had t K) (want (second w t K)
 pub had_run : (n deep k j : ℕ) (xs ys zs : List Item) (t : Tree) → ((K : Context unit) → depth K + deep ≡ max_depth → runs n (want K) k xs ≡ runs n (unit_done K t) j ys) → ys ≡ zs → (K : Context rule) → depth K + deep ≡ max_depth → runs n (want (first K)) k xs ≡ runs n (had t K) j zs
 had_run n deep k j xs ys zs t go e K h = go (first K) (omega (arith, first_depth K)) ∙ ap₂ (λ S z. runs n S j z) (first_done K t) e
 
--- and on to where its second unit is wanted; m is the text's length once more, and i counts the two_sided word
+-- and on to where its second unit is wanted; m is the text's length once more, and i counts the two-sided word
 pub want_second : (n deep k j i m p : ℕ) (xs zs : List Item) (t : Tree) (w : Word) → ((K : Context rule) → depth K + deep ≡ max_depth → runs n (want (first K)) k xs ≡ runs n (had t K) j (token p (word w) ∷ zs)) → takes w ≡ Two → m ≡ n → i ≡ j + 1 → i ≤ max_words → (K : Context rule) → depth K + deep ≡ max_depth → runs n (want (first K)) k xs ≡ runs m (want (second w t K)) i zs
 want_second n deep k j i m p xs zs t w go e same more few K h =
     go K h ∙ two_in n p j t K w zs e (omega arith) (omega arith)

@@ -14,7 +14,7 @@ use grammar::{TextFault, Token};
 use lexer::{Lexer, Placed};
 use words::{Operands, Word, operands_of};
 
-// A rule: a unit, or two units and a two_sided word between them. It has read the token behind the rule, too, and
+// A rule: a unit, or two units and a two-sided word between them. It has read the token behind the rule, too, and
 // hands it back.
 #[cycle(in_parentheses_one_sided_rule_unit)]
 pub(crate) fn rule(
@@ -42,7 +42,7 @@ pub(crate) fn rule(
     lexer.next()
 }
 
-// A unit: a rule in parentheses, a one_sided word and a unit, or a leaf.
+// A unit: a rule in parentheses, a one-sided word and a unit, or a leaf.
 #[cycle(in_parentheses_one_sided_rule_unit)]
 pub(crate) fn unit(lexer: &mut Lexer, draft: &mut Draft, deep: usize) -> Result<(), TextFault>
     ensures read { ReadUnit (length (text_of lexer.old)) deep (left lexer.old) draft.old result (left lexer.new) draft.new }
@@ -82,7 +82,7 @@ fn leaf(draft: &mut Draft, word: Word, place: usize) -> Result<(), TextFault>
     Ok(())
 }
 
-// The unit of a one_sided word, which stands at `place`.
+// The unit of a one-sided word, which stands at `place`.
 #[cycle(in_parentheses_one_sided_rule_unit)]
 fn one_sided(
     lexer: &mut Lexer,

@@ -1,4 +1,4 @@
-// A word of 64 two_valued predicates: predicate N is bit N, bit 0 the lowest.
+// A word of 64 two-valued predicates: predicate N is bit N, bit 0 the lowest.
 ghost use Rattle.readings.specs.Few.{bits_few};
 ghost use Rattle.readings.specs.Lists.{bits};
 

@@ -26,7 +26,7 @@ pub record Nest : Type 0 where
 abbrev pub start : Nest
 start = record { opened = []; pending = calm }
 
--- unfit: the number does not fit the kind; after_call, after-end: another event is due; stray: a begin or return
+-- unfit: the number does not fit the kind; after_call, after_end: another event is due; stray: a begin or return
 -- that is not due; not-innermost: an end of another routine than the innermost; too-deep: a call with the limit open
 pub data Fault : Type 0 where
   unfit after_call after_end stray not_innermost too_deep : Fault

@@ -4,7 +4,7 @@ use Rattle.std.specs.Str.Parse.{digits_value}
 use Rattle.std.specs.Char.{is_ascii_digit}
 use Rattle.std.specs.Str.{all_ascii_digits}
 use Rattle.std.proofs.lemmas.Fmt.{decimal-digits_value, digits_value-decimal, digits_decimal, first_decimal, decimal_nonempty, decimal_digit}
-use Rattle.std.proofs.lemmas.Bool.{leb-true, le-leb, eqb-true, eq-eqb, ne_eqb, and_parts, and_from, false≢true, both_ways, not_true, not_from_false}
+use Rattle.std.proofs.lemmas.Bool.{leb-true, le-leb, eqb-true, eq-eqb, ne_eqb, and_parts, and_from, false≢true, both_ways, not-true, not_from_false}
 use Rattle.words.proofs.Spelling.{own, Bounded, bounded}
 use Rattle.words.specs.Words.{Numbering, bare, within, text, numbering, suffix, Allowed, Names}
 use Rattle.words.specs.Lookup.{starts_number, is_numeral, numbered, behind, Line, line, fit, or_else, seek, operators, lookup}
@@ -15,7 +15,7 @@ use Rattle.words.specs.declared.Operator.TheVariants.{And, Or, Implies, Since, R
 starts_parts : (ds : List ℕ) → starts_number ds ≡ true → (0 < length ds) × (get_or ds 0 0 ≡ 48 → length ds ≡ 1)
 starts_parts [] h = absurd (false≢true h)
 starts_parts (b ∷ []) h = (omega arith, λ e. refl)
-starts_parts (b ∷ (c ∷ bs)) h = (omega arith, λ e. absurd (both_ways (eqb b 48) (not_true (eqb b 48) h) (eq-eqb b 48 e)))
+starts_parts (b ∷ (c ∷ bs)) h = (omega arith, λ e. absurd (both_ways (eqb b 48) (not-true (eqb b 48) h) (eq-eqb b 48 e)))
 
 starts_from : (ds : List ℕ) → 0 < length ds → (get_or ds 0 0 ≡ 48 → length ds ≡ 1) → starts_number ds ≡ true
 starts_from [] h z = absurd (omega arith)

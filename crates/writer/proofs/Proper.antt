@@ -9,7 +9,7 @@ use Rattle.grammar.specs.Nodes.{size}
 use Rattle.grammar.specs.declared.Token.{Token}
 use Rattle.grammar.specs.declared.Token.TheVariants.{Open, Close, Word as word}
 
--- the tree can be laid out as this part inside d open parentheses and unfinished one_sided words
+-- the tree can be laid out as this part inside d open parentheses and unfinished one-sided words
 abbrev pub Proper : ℕ → Part → Tree → Type 0
 Proper d p (leaf w) = Listed w × (takes w ≡ Zero)
 Proper d p (one w t) = Listed w × (takes w ≡ One) × in_depth (suc d) × Proper (suc d) unit t

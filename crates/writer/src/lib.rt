@@ -62,7 +62,7 @@ fn put_rule(nodes: &[Node], top: usize, out: &mut [u8], at: usize) -> usize
     }
 }
 
-// Puts the text of an operand: in parentheses where a two_sided word is at its top.
+// Puts the text of an operand: in parentheses where a two-sided word is at its top.
 #[cycle(put_rule_put_unit)]
 fn put_unit(nodes: &[Node], top: usize, out: &mut [u8], at: usize) -> usize
     requires ordered { Ordered 0 nodes.now }

@@ -7,5 +7,5 @@ use Rattle.words.proofs.find.Goals as goal
 pub returns : goal.returns
 unfolding lookup
 returns c =
-    let found : c.find-in.result ≡ lookup c.args.run.now = c.find-in.ensures.value in
-    record { named = lookup_cases c.args.run.now c.find-in.result found; only = λ w n. found ∙ names_lookup c.args.run.now w n; value = found }
+    let found : c.find_in.result ≡ lookup c.args.run.now = c.find_in.ensures.value in
+    record { named = lookup_cases c.args.run.now c.find_in.result found; only = λ w n. found ∙ names_lookup c.args.run.now w n; value = found }

@@ -16,7 +16,7 @@ pub returns-in-Some : goal.returns-in-Some
 returns-in-Some c = record { value = sym (step c.args.rows.now c.args.run.now c.loop-row.row-index _ (Some c.in-Some.number) c.loop-row-test.true c.in-Some.ensures.value) ∙ c.loop-row.invariant }
 
 pub loop-row-preserved : goal.loop-row-preserved
-loop-row-preserved c = sym (step c.args.rows.now c.args.run.now c.loop-row.row-index _ None c.loop-row-test.true c.in-default.ensures.value) ∙ c.loop-row.invariant
+loop-row-preserved c = sym (step c.args.rows.now c.args.run.now c.loop-row.row-index _ None c.loop-row-test.true c.in_default.ensures.value) ∙ c.loop-row.invariant
 
 pub returns : goal.returns
 returns c = record { value = sym (at_drop_all (λ rs. seek (map line_of rs) c.args.run.now) c.args.rows.now c.loop-row.row-index c.loop-row-test.false) ∙ c.loop-row.invariant }

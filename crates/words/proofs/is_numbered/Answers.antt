@@ -13,4 +13,4 @@ some_follows None = refl
 some_follows (Some ns) = refl
 
 pub returns : goal.returns
-returns c = record { value = c.is-some.ensures ∙ some_follows c.row-of.result.now.numbers ∙ ap (λ (l : Line). follows l.numbering) c.row-of.ensures.line }
+returns c = record { value = c.is_some.ensures ∙ some_follows c.row_of.result.now.numbers ∙ ap (λ (l : Line). follows l.numbering) c.row_of.ensures.line }

@@ -14,5 +14,5 @@ returns-in-default c =
 
 pub returns : goal.returns
 returns c =
-    let parts = strip_prefix_is Decides-eqb c.args.run.now c.args.row.now.text.now c.strip-prefix.result c.strip-prefix.ensures.cases in
-    record { value = c.number-of.ensures.value ∙ sym (fit_rest (line_of c.args.row.now) c.args.run.now c.in-Some.rest.now (MatchOption-at_some _ _ c.in-Some.rest c.in-Some.is parts)) }
+    let parts = strip_prefix_is Decides-eqb c.args.run.now c.args.row.now.text.now c.strip_prefix.result c.strip_prefix.ensures.cases in
+    record { value = c.number_of.ensures.value ∙ sym (fit_rest (line_of c.args.row.now) c.args.run.now c.in-Some.rest.now (MatchOption-at_some _ _ c.in-Some.rest c.in-Some.is parts)) }

@@ -8,8 +8,8 @@ returns c =
     let piece = c.args.piece.now in
     let m = c.min-from.result in
     let n = c.min-count.result in
-    let part : c.copy-from-slice.new.self ≡ take n piece = search rules in
+    let part : c.copy_from_slice.new.self ≡ take n piece = search rules in
     record {
       place = length_joined buffer piece c.args.at m n c.min-from.ensures c.min-count.ensures;
-      memory = put_memory buffer piece c.copy-from-slice.new.self c.args.at m n c.min-from.ensures c.min-count.ensures part;
+      memory = put_memory buffer piece c.copy_from_slice.new.self c.args.at m n c.min-from.ensures c.min-count.ensures part;
     }
