@@ -16,7 +16,7 @@ two_laws = record {
   and_true = λ x. refl;
   or_false = λ x. refl;
   and_false = λ x. refl;
-  not_not = Bool.not_not;
+  not_not = Bool.not-not;
   not_and = elim [ true ↦ λ y. refl | false ↦ λ y. refl ];
   differ = true≢false;
 }

@@ -1,5 +1,6 @@
 // The margin kind: how far a reading lies inside its limit, in hundredths of a percent of moisture.
-ghost use Rattle.std.specs.Prelude.{◌≡◌, Decides};
+ghost use Rattle.std.specs.Prelude.{◌≡◌};
+ghost use Rattle.std.specs.Ordering.{int_eq, on};
 ghost use Rattle.kinds.specs.Margin.{margin, margin_means, held};
 ghost use Rattle.kinds.specs.MarginLaws.{margin_laws};
 ghost use Rattle.std.specs.Cmp.Rules.{comparing};
@@ -26,7 +27,7 @@ impl Margin {
 
 // Margins are compared by what they mean.
 impl PartialEq for Margin {
-    ghost equals = { λ x y r. Decides r ((held x.0).value ≡ (held y.0).value) };
+    ghost eq = { on (λ x. (held x.0).value) int_eq };
 
     ghost laws = { Keys.partial_equiv_from_equiv (Prim.search (comparing, rules)) };
 

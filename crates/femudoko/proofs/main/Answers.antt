@@ -1,8 +1,8 @@
 use Rattle.std.proofs.Common.{◌≤◌, arith, rules}
 use Rattle.femudoko.proofs.main.Goals as goal
 
-pub slice-bounds-write-all-end : goal.slice-bounds-write-all-end
-slice-bounds-write-all-end c =
+pub slice_bounds-write_all-end : goal.slice_bounds-write_all-end
+slice_bounds-write_all-end c =
     let e = c.in-Ok.ensures in
     let line = e.written e.some-line.0 e.some-line.1 in
     let within : c.in-Ok.end ≤ 542 = omega (arith, line.count, line.room) in

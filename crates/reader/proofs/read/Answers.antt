@@ -12,8 +12,8 @@ never e = let z : ◌≡◌ {A = ℕ} 0 1 = cc in omega arith
 carried : {f g : TextFault} → ◌≡◌ {A = Result Nodes TextFault} (Err f) (Err g) → ◌≡◌ {A = Result Rule TextFault} (Err f) (Err g)
 carried {f} {g} e = let same : f ≡ g = cc in ap Err same
 
-pub invariant-of-result : goal.invariant-of-result
-invariant-of-result c =
+pub invariant_of-result : goal.invariant_of-result
+invariant_of-result c =
     let o = c.in-Ok.ensures.outcome in
     (o.0, (∣ (_, o.1.0, o.1.1, o.1.2) ∣₁, tt))
 

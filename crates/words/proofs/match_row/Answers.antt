@@ -7,10 +7,10 @@ use Rattle.words.proofs.Lookup.{fit_none, fit_rest}
 use Rattle.words.proofs.match_row.Goals as goal
 use Rattle.std.proofs.lemmas.Bool.Decides.{Decides-eqb}
 
-pub returns-in-default : goal.returns-in-default
-returns-in-default c =
-    let parts = strip_prefix_is Decides-eqb c.args.run.now c.args.row.now.text.now c.strip-prefix.result c.strip-prefix.ensures.cases in
-    record { value = sym (fit_none (line_of c.args.row.now) c.args.run.now (MatchOption-at_none _ _ c.in-default.is parts)) }
+pub returns-in_default : goal.returns-in_default
+returns-in_default c =
+    let parts = strip_prefix_is Decides-eqb c.args.run.now c.args.row.now.text.now c.strip_prefix.result c.strip_prefix.ensures.cases in
+    record { value = sym (fit_none (line_of c.args.row.now) c.args.run.now (MatchOption-at_none _ _ c.in_default.is parts)) }
 
 pub returns : goal.returns
 returns c =

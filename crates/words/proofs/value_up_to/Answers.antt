@@ -3,8 +3,8 @@ use Rattle.std.proofs.Common.{sym, ◌∙◌}
 use Rattle.words.proofs.Reading.{read_more, read_stop, read_all}
 use Rattle.words.proofs.value_up_to.Goals as goal
 
-pub returns-in-default : goal.returns-in-default
-returns-in-default c = record { value = read_stop c.args.highest c.args.digits.now c.loop-digit.number c.loop-digit.digit-index c.loop-digit-test.true (sym c.in-default.ensures.value) c.loop-digit.invariant }
+pub returns-in_default : goal.returns-in_default
+returns-in_default c = record { value = read_stop c.args.highest c.args.digits.now c.loop-digit.number c.loop-digit.digit-index c.loop-digit-test.true (sym c.in_default.ensures.value) c.loop-digit.invariant }
 
 pub loop-digit-preserved : goal.loop-digit-preserved
 loop-digit-preserved c = read_more c.args.highest c.args.digits.now c.loop-digit.number c.loop-digit.digit-index c.in-Some.longer c.loop-digit-test.true (sym c.in-Some.ensures.value) c.loop-digit.invariant

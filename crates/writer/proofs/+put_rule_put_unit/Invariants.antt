@@ -2,8 +2,8 @@
 use Rattle.std.proofs.Common.{◌+◌, ◌*◌}
 use Rattle.writer.proofs.+put_rule_put_unit.Given as goal
 
-abbrev pub decreases-put-rule : goal.decreases-put-rule
-decreases-put-rule l = 2 * l.top
+abbrev pub decreases-put_rule : goal.decreases-put_rule
+decreases-put_rule l = 2 * l.top
 
-abbrev pub decreases-put-unit : goal.decreases-put-unit
-decreases-put-unit l = 2 * l.top + 1
+abbrev pub decreases-put_unit : goal.decreases-put_unit
+decreases-put_unit l = 2 * l.top + 1

@@ -14,6 +14,6 @@ returns c =
     let w = c.args.word in
     record {
       text = puts_then
-          (puts_piece (text w.operator) c.text-of.ensures.value c.put-end.ensures.place c.put-end.ensures.memory)
-          (puts_piece (suffix (numbering w.operator) w.number) (c.bytes.ensures.value ∙ ap decimal c.new.ensures.value ∙ numbered_suffix (numbering w.operator) w.number (sym c.is-numbered.ensures.value ∙ c.if-not-is-numbered.false)) c.put.ensures.place c.put.ensures.memory);
+          (puts_piece (text w.operator) c.text_of.ensures.value c.put-end.ensures.place c.put-end.ensures.memory)
+          (puts_piece (suffix (numbering w.operator) w.number) (c.bytes.ensures.value ∙ ap decimal c.new.ensures.value ∙ numbered_suffix (numbering w.operator) w.number (sym c.is_numbered.ensures.value ∙ c.if-not-is_numbered.false)) c.put.ensures.place c.put.ensures.memory);
     }

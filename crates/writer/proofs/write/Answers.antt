@@ -7,29 +7,29 @@ use Rattle.reader.proofs.Trees.{some_tree}
 use Rattle.writer.proofs.Draft.{some_node, in_order, last_tops, draft_end, draft_text}
 use Rattle.writer.proofs.write.Goals as goal
 
-pub overflow-sub-nodes : goal.overflow-sub-nodes
-overflow-sub-nodes c = some_node c.args.rule.now _ c.nodes-nodes.ensures.value
+pub overflow_sub-nodes : goal.overflow_sub-nodes
+overflow_sub-nodes c = some_node c.args.rule.now _ c.nodes-nodes.ensures.value
 
-pub put-rule-end-requires : goal.put-rule-end-requires
-put-rule-end-requires c =
+pub put_rule-end-requires : goal.put_rule-end-requires
+put_rule-end-requires c =
     let some = some_node c.args.rule.now _ c.nodes-nodes.ensures.value in
     record { ordered = in_order c.args.rule.now _ c.nodes-nodes.ensures.value; within = omega arith }
 
-pub slice-bounds-write-end : goal.slice-bounds-write-end
-slice-bounds-write-end c =
-    let within = draft_end c.args.rule.now _ c.nodes-nodes.ensures.value c.put-rule-end.ensures.text in
+pub slice_bounds-write-end : goal.slice_bounds-write-end
+slice_bounds-write-end c =
+    let within = draft_end c.args.rule.now _ c.nodes-nodes.ensures.value c.put_rule-end.ensures.text in
     search rules
 
 pub returns : goal.returns
 returns c =
     record {
       some_tree = some_tree c.args.rule.now;
-      one-tree = λ t u x y. same_tree x.text y.text t u x.accepted y.accepted (sym x.nodes ∙ y.nodes);
+      one_tree = λ t u x y. same_tree x.text y.text t u x.accepted y.accepted (sym x.nodes ∙ y.nodes);
       written = λ t x.
           let T = last_tops c.args.rule.now _ c.nodes-nodes.ensures.value t x in
-          let whole = draft_text (layout_short x.text t x.accepted) (c.put-rule-end.ensures.text t T) in
+          let whole = draft_text (layout_short x.text t x.accepted) (c.put_rule-end.ensures.text t T) in
           let P : List ℕ → Type 0 = λ y. Written c.args.out.now c.write.new.out y c.write.result in
-          subst P (ap (λ n. take n c.put-rule-end.new.out) (sub-zero c.put-rule-end.result) ∙ whole) c.write.ensures.written;
+          subst P (ap (λ n. take n c.put_rule-end.new.out) (sub-zero c.put_rule-end.result) ∙ whole) c.write.ensures.written;
       short = λ t x. layout_short x.text t x.accepted;
-      reads-back = λ t x. layout_accepted x.text t x.accepted;
+      reads_back = λ t x. layout_accepted x.text t x.accepted;
     }

@@ -13,60 +13,60 @@ use Rattle.reader.proofs.Steps.{at_end, at_bad, first_depth, second_depth, first
 use Rattle.reader.proofs.Ways.{next_none, next_some, had_run, want_second, paren_deep, paren_in, inside_level, close_missing, close_found, one_deep, one_many, one_in, under_level, two_wanted, close_wanted, two_in, two_many, alone_by_token, alone_by_word, rule_by_next, size_some, Pushed, Counted, grown_one, grown_two}
 use Rattle.reader.proofs.parse.+in_parentheses_one_sided_rule_unit.Goals as goal
 
-pub in-parentheses-returns-in-err-below : goal.in-parentheses-returns-in-err-below
-in-parentheses-returns-in-err-below t c =
+pub in_parentheses-returns-in_err-below : goal.in_parentheses-returns-in_err-below
+in_parentheses-returns-in_err-below t c =
     record {
       read =
           let p = err_from_is_err_and c.from-residual.result c.from-residual.ensures.1 in
-          let none = c.in-err-below.ensures.level in
+          let none = c.in_err-below.ensures.level in
           rw (p.1, p.2, none.0) (λ K h. paren_deep _ _ _ c.args.deep K _ h none.1);
       same_text = refl;
     }
 
-pub in-parentheses-returns-in-err-next : goal.in-parentheses-returns-in-err-next
-in-parentheses-returns-in-err-next t c =
+pub in_parentheses-returns-in_err-next : goal.in_parentheses-returns-in_err-next
+in_parentheses-returns-in_err-next t c =
     record {
       read =
-          let p = err_from_is_err_and c.from-residual-in-err-next.result c.from-residual-in-err-next.ensures.1 in
-          rw (p.1, p.2) (λ K h. paren_in _ _ _ c.args.deep c.in-ok-below.below K _ h c.in-ok-below.ensures.level c.args.draft.now.few ∙ c.in-err-next.ensures.read (inside K) (inside_level c.args.deep c.in-ok-below.below K h c.in-ok-below.ensures.level));
+          let p = err_from_is_err_and c.from-residual-in_err-next.result c.from-residual-in_err-next.ensures.1 in
+          rw (p.1, p.2) (λ K h. paren_in _ _ _ c.args.deep c.in_ok-below.below K _ h c.in_ok-below.ensures.level c.args.draft.now.few ∙ c.in_err-next.ensures.read (inside K) (inside_level c.args.deep c.in_ok-below.below K h c.in_ok-below.ensures.level));
       same_text = c.rule.ensures.same_text;
     }
 
-pub in-parentheses-returns-in-default : goal.in-parentheses-returns-in-default
-in-parentheses-returns-in-default t c =
-    let rd = c.in-ok-next.ensures.read in
+pub in_parentheses-returns-in_default : goal.in_parentheses-returns-in_default
+in_parentheses-returns-in_default t c =
+    let rd = c.in_ok-next.ensures.read in
     record {
       read =
           λ K h.
-          paren_in _ _ _ c.args.deep c.in-ok-below.below K _ h c.in-ok-below.ensures.level c.args.draft.now.few
-          ∙ rd.1 (inside K) (inside_level c.args.deep c.in-ok-below.below K h c.in-ok-below.ensures.level)
-          ∙ ap (λ o. behind (length (text_of c.args.lexer.now)) (inside K) rd.0 c.rule.new.draft.words o (left c.rule.new.lexer)) c.in-default.is
-          ∙ ap (λ n. refused (EndsEarly n)) (sym (c.text-len.ensures.value ∙ ap length c.rule.ensures.same_text));
+          paren_in _ _ _ c.args.deep c.in_ok-below.below K _ h c.in_ok-below.ensures.level c.args.draft.now.few
+          ∙ rd.1 (inside K) (inside_level c.args.deep c.in_ok-below.below K h c.in_ok-below.ensures.level)
+          ∙ ap (λ o. behind (length (text_of c.args.lexer.now)) (inside K) rd.0 c.rule.new.draft.words o (left c.rule.new.lexer)) c.in_default.is
+          ∙ ap (λ n. refused (EndsEarly n)) (sym (c.text_len.ensures.value ∙ ap length c.rule.ensures.same_text));
       same_text = c.rule.ensures.same_text;
     }
 
-pub in-parentheses-returns-in-default-token : goal.in-parentheses-returns-in-default-token
-in-parentheses-returns-in-default-token t c =
-    let rd = c.in-ok-next.ensures.read in
+pub in_parentheses-returns-in_default-token : goal.in_parentheses-returns-in_default-token
+in_parentheses-returns-in_default-token t c =
+    let rd = c.in_ok-next.ensures.read in
     record {
       read =
           λ K h.
-          paren_in _ _ _ c.args.deep c.in-ok-below.below K _ h c.in-ok-below.ensures.level c.args.draft.now.few
-          ∙ rd.1 (inside K) (inside_level c.args.deep c.in-ok-below.below K h c.in-ok-below.ensures.level)
+          paren_in _ _ _ c.args.deep c.in_ok-below.below K _ h c.in_ok-below.ensures.level c.args.draft.now.few
+          ∙ rd.1 (inside K) (inside_level c.args.deep c.in_ok-below.below K h c.in_ok-below.ensures.level)
           ∙ ap (λ o. behind (length (text_of c.args.lexer.now)) (inside K) rd.0 c.rule.new.draft.words o (left c.rule.new.lexer)) c.in-Some.is
-          ∙ close_missing _ _ rd.0 K c.in-Some.next _ c.in-default-token.not-Close;
+          ∙ close_missing _ _ rd.0 K c.in-Some.next _ c.in_default-token.not-Close;
       same_text = c.rule.ensures.same_text;
     }
 
-pub in-parentheses-returns : goal.in-parentheses-returns
-in-parentheses-returns t c =
-    let rd = c.in-ok-next.ensures.read in
+pub in_parentheses-returns : goal.in_parentheses-returns
+in_parentheses-returns t c =
+    let rd = c.in_ok-next.ensures.read in
     record {
       read = (
         rd.0,
         (λ K h.
-            paren_in _ _ _ c.args.deep c.in-ok-below.below K _ h c.in-ok-below.ensures.level c.args.draft.now.few
-            ∙ rd.1 (inside K) (inside_level c.args.deep c.in-ok-below.below K h c.in-ok-below.ensures.level)
+            paren_in _ _ _ c.args.deep c.in_ok-below.below K _ h c.in_ok-below.ensures.level c.args.draft.now.few
+            ∙ rd.1 (inside K) (inside_level c.args.deep c.in_ok-below.below K h c.in_ok-below.ensures.level)
             ∙ ap (λ o. behind (length (text_of c.args.lexer.now)) (inside K) rd.0 c.rule.new.draft.words o (left c.rule.new.lexer)) c.in-Some.is
             ∙ close_found _ _ rd.0 K c.in-Some.next _ c.in-Close.is (omega arith) c.rule.new.draft.few),
         rd.2,
@@ -74,53 +74,53 @@ in-parentheses-returns t c =
       same_text = c.rule.ensures.same_text;
     }
 
-pub one-sided-returns-in-err-below : goal.one-sided-returns-in-err-below
-one-sided-returns-in-err-below t c =
+pub one_sided-returns-in_err-below : goal.one_sided-returns-in_err-below
+one_sided-returns-in_err-below t c =
     record {
       read =
           let p = err_from_is_err_and c.from-residual.result c.from-residual.ensures.1 in
-          let none = c.in-err-below.ensures.level in
+          let none = c.in_err-below.ensures.level in
           rw (p.1, p.2, none.0) (λ K h. one_deep _ _ _ c.args.deep K c.args.word _ c.requires h none.1);
       same_text = refl;
     }
 
-pub one-sided-returns-in-err-count : goal.one-sided-returns-in-err-count
-one-sided-returns-in-err-count t c =
+pub one_sided-returns-in_err-count : goal.one_sided-returns-in_err-count
+one_sided-returns-in_err-count t c =
     record {
       read =
-          let p = err_from_is_err_and c.from-residual-in-err-count.result c.from-residual-in-err-count.ensures.1 in
-          let many = c.in-err-count.ensures.counted in
-          rw (p.1, p.2, many.0) (λ K h. one_many _ _ _ c.args.deep c.in-ok-below.below K c.args.word _ c.requires h c.in-ok-below.ensures.level many.1);
+          let p = err_from_is_err_and c.from-residual-in_err-count.result c.from-residual-in_err-count.ensures.1 in
+          let many = c.in_err-count.ensures.counted in
+          rw (p.1, p.2, many.0) (λ K h. one_many _ _ _ c.args.deep c.in_ok-below.below K c.args.word _ c.requires h c.in_ok-below.ensures.level many.1);
       same_text = refl;
     }
 
-pub one-sided-returns-in-err-unit : goal.one-sided-returns-in-err-unit
-one-sided-returns-in-err-unit t c =
-    let more = c.in-ok-count.ensures in
+pub one_sided-returns-in_err-unit : goal.one_sided-returns-in_err-unit
+one_sided-returns-in_err-unit t c =
+    let more = c.in_ok-count.ensures in
     record {
       read =
-          let p = err_from_is_err_and c.from-residual-in-err-unit.result c.from-residual-in-err-unit.ensures.1 in
+          let p = err_from_is_err_and c.from-residual-in_err-unit.result c.from-residual-in_err-unit.ensures.1 in
           rw (p.1, p.2)
           (λ K h.
-          one_in _ _ _ c.args.deep c.in-ok-below.below K c.args.word _ c.requires h c.in-ok-below.ensures.level (omega (arith, more.counted, c.count.new.self.few))
+          one_in _ _ _ c.args.deep c.in_ok-below.below K c.args.word _ c.requires h c.in_ok-below.ensures.level (omega (arith, more.counted, c.count.new.self.few))
           ∙ ap (λ k. runs (length (text_of c.args.lexer.now)) (want (under c.args.word K)) k (left c.args.lexer.now)) (sym more.counted)
-          ∙ c.in-err-unit.ensures.read (under c.args.word K) (under_level c.args.deep c.in-ok-below.below c.args.word K h c.in-ok-below.ensures.level));
+          ∙ c.in_err-unit.ensures.read (under c.args.word K) (under_level c.args.deep c.in_ok-below.below c.args.word K h c.in_ok-below.ensures.level));
       same_text = c.unit.ensures.same_text;
     }
 
-pub one-sided-returns : goal.one-sided-returns
-one-sided-returns t c =
-    let more = c.in-ok-count.ensures in
-    let rd = c.in-ok-unit.ensures.read in
+pub one_sided-returns : goal.one_sided-returns
+one_sided-returns t c =
+    let more = c.in_ok-count.ensures in
+    let rd = c.in_ok-unit.ensures.read in
     let counted : Counted c.args.draft.now c.count.new.self = record { same = more.same; words = more.counted } in
     let pushed : Pushed c.unit.new.draft c.push.new.self c.args.word 0 = record { pushed = c.push.ensures.pushed; len = c.push.ensures.len; words = c.push.ensures.words } in
     record {
       read = (
         one c.args.word rd.0,
         (λ K h.
-            one_in _ _ _ c.args.deep c.in-ok-below.below K c.args.word _ c.requires h c.in-ok-below.ensures.level (omega (arith, more.counted, c.count.new.self.few))
+            one_in _ _ _ c.args.deep c.in_ok-below.below K c.args.word _ c.requires h c.in_ok-below.ensures.level (omega (arith, more.counted, c.count.new.self.few))
             ∙ ap (λ k. runs (length (text_of c.args.lexer.now)) (want (under c.args.word K)) k (left c.args.lexer.now)) (sym more.counted)
-            ∙ rd.1 (under c.args.word K) (under_level c.args.deep c.in-ok-below.below c.args.word K h c.in-ok-below.ensures.level)
+            ∙ rd.1 (under c.args.word K) (under_level c.args.deep c.in_ok-below.below c.args.word K h c.in_ok-below.ensures.level)
             ∙ ap (λ S. runs (length (text_of c.args.lexer.now)) S c.unit.new.draft.words (left c.unit.new.lexer)) (under_done c.args.word K rd.0)
             ∙ ap (λ k. runs (length (text_of c.args.lexer.now)) (unit_done K (one c.args.word rd.0)) k (left c.unit.new.lexer)) (sym c.push.ensures.words)),
         grown_one counted rd.2 pushed,
@@ -128,88 +128,88 @@ one-sided-returns t c =
       same_text = c.unit.ensures.same_text;
     }
 
-pub rule-returns-in-err-unit : goal.rule-returns-in-err-unit
-rule-returns-in-err-unit t c =
+pub rule-returns-in_err-unit : goal.rule-returns-in_err-unit
+rule-returns-in_err-unit t c =
     record {
       read =
           let p = err_from_is_err_and c.from-residual.result c.from-residual.ensures.1 in
-          rw (p.1, p.2) (λ K h. c.in-err-unit.ensures.read (first K) (omega (arith, first_depth K)));
+          rw (p.1, p.2) (λ K h. c.in_err-unit.ensures.read (first K) (omega (arith, first_depth K)));
       same_text = c.unit.ensures.same_text;
     }
 
-pub rule-overflow-sub-operand : goal.rule-overflow-sub-operand
-rule-overflow-sub-operand t c =
-    let rd = c.in-ok-unit.ensures.read in
+pub rule-overflow_sub-operand : goal.rule-overflow_sub-operand
+rule-overflow_sub-operand t c =
+    let rd = c.in_ok-unit.ensures.read in
     omega (arith, size_some rd.0, rd.2.len)
 
-pub rule-returns-in-err-next : goal.rule-returns-in-err-next
-rule-returns-in-err-next t c =
-    let a = c.in-err-next.ensures.answer in
-    let rd = c.in-ok-unit.ensures.read in
+pub rule-returns-in_err-next : goal.rule-returns-in_err-next
+rule-returns-in_err-next t c =
+    let a = c.in_err-next.ensures.answer in
+    let rd = c.in_ok-unit.ensures.read in
     let first-unit = had_run _ c.args.deep _ _ _ _ _ rd.0 rd.1 a.1 in
     record {
       read =
-          let p = err_from_is_err_and c.from-residual-in-err-next.result c.from-residual-in-err-next.ensures.1 in
+          let p = err_from_is_err_and c.from-residual-in_err-next.result c.from-residual-in_err-next.ensures.1 in
           rw (p.1, p.2) (λ K h. first-unit K h ∙ at_bad _ _ (had rd.0 K) _ a.0);
       same_text = c.next.ensures.same_text ∙ c.unit.ensures.same_text;
     }
 
-pub rule-returns-in-default : goal.rule-returns-in-default
-rule-returns-in-default t c =
-    let rd = c.in-ok-unit.ensures.read in
-    let first-unit = had_run _ c.args.deep _ _ _ _ _ rd.0 rd.1 (next_none (left c.unit.new.lexer) (left c.next.new.self) c.in-default.is c.in-ok-next.ensures.answer) in
+pub rule-returns-in_default : goal.rule-returns-in_default
+rule-returns-in_default t c =
+    let rd = c.in_ok-unit.ensures.read in
+    let first-unit = had_run _ c.args.deep _ _ _ _ _ rd.0 rd.1 (next_none (left c.unit.new.lexer) (left c.next.new.self) c.in_default.is c.in_ok-next.ensures.answer) in
     record { read = (rd.0, (λ K h. first-unit K h ∙ at_end _ _ (had rd.0 K)), rd.2); same_text = c.next.ensures.same_text ∙ c.unit.ensures.same_text }
 
-pub rule-returns-in-default-token : goal.rule-returns-in-default-token
-rule-returns-in-default-token t c =
-    let rd = c.in-ok-unit.ensures.read in
-    let first-unit = had_run _ c.args.deep _ _ _ _ _ rd.0 rd.1 (next_some (left c.unit.new.lexer) (left c.next.new.self) c.in-Some.is c.in-ok-next.ensures.answer) in
-    record { read = (rd.0, (λ K h. first-unit K h ∙ alone_by_token _ _ rd.0 K c.in-Some.next _ c.in-default-token.not-Word), rd.2); same_text = c.next.ensures.same_text ∙ c.unit.ensures.same_text }
+pub rule-returns-in_default-token : goal.rule-returns-in_default-token
+rule-returns-in_default-token t c =
+    let rd = c.in_ok-unit.ensures.read in
+    let first-unit = had_run _ c.args.deep _ _ _ _ _ rd.0 rd.1 (next_some (left c.unit.new.lexer) (left c.next.new.self) c.in-Some.is c.in_ok-next.ensures.answer) in
+    record { read = (rd.0, (λ K h. first-unit K h ∙ alone_by_token _ _ rd.0 K c.in-Some.next _ c.in_default-token.not-Word), rd.2); same_text = c.next.ensures.same_text ∙ c.unit.ensures.same_text }
 
-pub rule-returns-in-default-operands-of : goal.rule-returns-in-default-operands-of
-rule-returns-in-default-operands-of t c =
-    let rd = c.in-ok-unit.ensures.read in
-    let first-unit = had_run _ c.args.deep _ _ _ _ _ rd.0 rd.1 (next_some (left c.unit.new.lexer) (left c.next.new.self) c.in-Some.is c.in-ok-next.ensures.answer) in
+pub rule-returns-in_default-operands_of : goal.rule-returns-in_default-operands_of
+rule-returns-in_default-operands_of t c =
+    let rd = c.in_ok-unit.ensures.read in
+    let first-unit = had_run _ c.args.deep _ _ _ _ _ rd.0 rd.1 (next_some (left c.unit.new.lexer) (left c.next.new.self) c.in-Some.is c.in_ok-next.ensures.answer) in
     record {
-      read = (rd.0, (λ K h. first-unit K h ∙ alone_by_word _ _ rd.0 K c.in-Some.next c.in-Word.word _ c.in-Word.is (λ e. c.in-default-operands-of.not-Two (c.operands-of.ensures.value ∙ e))), rd.2);
+      read = (rd.0, (λ K h. first-unit K h ∙ alone_by_word _ _ rd.0 K c.in-Some.next c.in-Word.word _ c.in-Word.is (λ e. c.in_default-operands_of.not-Two (c.operands_of.ensures.value ∙ e))), rd.2);
       same_text = c.next.ensures.same_text ∙ c.unit.ensures.same_text;
     }
 
-pub rule-returns-in-err-count : goal.rule-returns-in-err-count
-rule-returns-in-err-count t c =
-    let rd = c.in-ok-unit.ensures.read in
-    let first-unit = had_run _ c.args.deep _ _ _ _ _ rd.0 rd.1 (next_some (left c.unit.new.lexer) (left c.next.new.self) c.in-Some.is c.in-ok-next.ensures.answer ∙ ap (λ x. token c.in-Some.next.place x ∷ left c.next.new.self) c.in-Word.is) in
-    let two_sided : takes c.in-Word.word ≡ Two = sym c.operands-of.ensures.value ∙ c.in-Two.is in
-    let many = c.in-err-count.ensures.counted in
+pub rule-returns-in_err-count : goal.rule-returns-in_err-count
+rule-returns-in_err-count t c =
+    let rd = c.in_ok-unit.ensures.read in
+    let first-unit = had_run _ c.args.deep _ _ _ _ _ rd.0 rd.1 (next_some (left c.unit.new.lexer) (left c.next.new.self) c.in-Some.is c.in_ok-next.ensures.answer ∙ ap (λ x. token c.in-Some.next.place x ∷ left c.next.new.self) c.in-Word.is) in
+    let two_sided : takes c.in-Word.word ≡ Two = sym c.operands_of.ensures.value ∙ c.in-Two.is in
+    let many = c.in_err-count.ensures.counted in
     record {
       read =
-          let p = err_from_is_err_and c.from-residual-in-err-count.result c.from-residual-in-err-count.ensures.1 in
+          let p = err_from_is_err_and c.from-residual-in_err-count.result c.from-residual-in_err-count.ensures.1 in
           rw (p.1, p.2, many.0) (λ K h. first-unit K h ∙ two_many _ _ _ rd.0 K c.in-Word.word _ two_sided (omega arith) many.1);
       same_text = c.next.ensures.same_text ∙ c.unit.ensures.same_text;
     }
 
-pub rule-returns-in-err-unit-2 : goal.rule-returns-in-err-unit-2
-rule-returns-in-err-unit-2 t c =
-    let rd = c.in-ok-unit.ensures.read in
-    let first-unit = had_run _ c.args.deep _ _ _ _ _ rd.0 rd.1 (next_some (left c.unit.new.lexer) (left c.next.new.self) c.in-Some.is c.in-ok-next.ensures.answer ∙ ap (λ x. token c.in-Some.next.place x ∷ left c.next.new.self) c.in-Word.is) in
-    let two_sided : takes c.in-Word.word ≡ Two = sym c.operands-of.ensures.value ∙ c.in-Two.is in
-    let more = c.in-ok-count.ensures in
+pub rule-returns-in_err-unit-2 : goal.rule-returns-in_err-unit-2
+rule-returns-in_err-unit-2 t c =
+    let rd = c.in_ok-unit.ensures.read in
+    let first-unit = had_run _ c.args.deep _ _ _ _ _ rd.0 rd.1 (next_some (left c.unit.new.lexer) (left c.next.new.self) c.in-Some.is c.in_ok-next.ensures.answer ∙ ap (λ x. token c.in-Some.next.place x ∷ left c.next.new.self) c.in-Word.is) in
+    let two_sided : takes c.in-Word.word ≡ Two = sym c.operands_of.ensures.value ∙ c.in-Two.is in
+    let more = c.in_ok-count.ensures in
     let second-unit = want_second _ c.args.deep _ _ c.count.new.self.words _ _ _ _ rd.0 c.in-Word.word first-unit two_sided (ap length (c.next.ensures.same_text ∙ c.unit.ensures.same_text)) more.counted c.count.new.self.few in
     record {
       read =
-          let p = err_from_is_err_and c.from-residual-in-err-unit-2.result c.from-residual-in-err-unit-2.ensures.1 in
-          rw (p.1, p.2) (λ K h. second-unit K h ∙ c.in-err-unit-2.ensures.read (second c.in-Word.word rd.0 K) (omega (arith, second_depth c.in-Word.word rd.0 K)));
+          let p = err_from_is_err_and c.from-residual-in_err-unit-2.result c.from-residual-in_err-unit-2.ensures.1 in
+          rw (p.1, p.2) (λ K h. second-unit K h ∙ c.in_err-unit-2.ensures.read (second c.in-Word.word rd.0 K) (omega (arith, second_depth c.in-Word.word rd.0 K)));
       same_text = c.unit-2.ensures.same_text ∙ c.next.ensures.same_text ∙ c.unit.ensures.same_text;
     }
 
 pub rule-returns : goal.rule-returns
 rule-returns t c =
-    let rd = c.in-ok-unit.ensures.read in
-    let first-unit = had_run _ c.args.deep _ _ _ _ _ rd.0 rd.1 (next_some (left c.unit.new.lexer) (left c.next.new.self) c.in-Some.is c.in-ok-next.ensures.answer ∙ ap (λ x. token c.in-Some.next.place x ∷ left c.next.new.self) c.in-Word.is) in
-    let two_sided : takes c.in-Word.word ≡ Two = sym c.operands-of.ensures.value ∙ c.in-Two.is in
-    let more = c.in-ok-count.ensures in
+    let rd = c.in_ok-unit.ensures.read in
+    let first-unit = had_run _ c.args.deep _ _ _ _ _ rd.0 rd.1 (next_some (left c.unit.new.lexer) (left c.next.new.self) c.in-Some.is c.in_ok-next.ensures.answer ∙ ap (λ x. token c.in-Some.next.place x ∷ left c.next.new.self) c.in-Word.is) in
+    let two_sided : takes c.in-Word.word ≡ Two = sym c.operands_of.ensures.value ∙ c.in-Two.is in
+    let more = c.in_ok-count.ensures in
     let second-unit = want_second _ c.args.deep _ _ c.count.new.self.words _ _ _ _ rd.0 c.in-Word.word first-unit two_sided (ap length (c.next.ensures.same_text ∙ c.unit.ensures.same_text)) more.counted c.count.new.self.few in
-    let re = c.in-ok-unit-2.ensures.read in
+    let re = c.in_ok-unit-2.ensures.read in
     let counted : Counted c.unit.new.draft c.count.new.self = record { same = more.same; words = more.counted } in
     let pushed : Pushed c.unit-2.new.draft c.push.new.self c.in-Word.word (c.unit.new.draft.nodes.len - 1) = record { pushed = c.push.ensures.pushed; len = c.push.ensures.len; words = c.push.ensures.words } in
     let tree : Tree = two c.in-Word.word rd.0 re.0 in
@@ -225,24 +225,24 @@ rule-returns t c =
       same_text = c.next-2.ensures.same_text ∙ c.unit-2.ensures.same_text ∙ c.next.ensures.same_text ∙ c.unit.ensures.same_text;
     }
 
-pub unit-returns-in-err-place : goal.unit-returns-in-err-place
-unit-returns-in-err-place t c =
+pub unit-returns-in_err-place : goal.unit-returns-in_err-place
+unit-returns-in_err-place t c =
     record {
       read =
           let p = err_from_is_err_and c.from-residual.result c.from-residual.ensures.1 in
-          let a = c.in-err-place.ensures.answer in
+          let a = c.in_err-place.ensures.answer in
           rw (p.1, p.2) (λ K h. ap (runs _ (want K) _) a.1 ∙ at_bad _ _ (want K) _ a.0);
       same_text = c.next.ensures.same_text;
     }
 
-pub unit-returns-in-default : goal.unit-returns-in-default
-unit-returns-in-default t c =
+pub unit-returns-in_default : goal.unit-returns-in_default
+unit-returns-in_default t c =
     record {
       read =
           λ K h.
-          ap (runs (length (text_of c.args.lexer.now)) (want K) c.args.draft.now.words) (next_none (left c.args.lexer.now) (left c.next.new.self) c.in-default.is c.in-ok-place.ensures.answer)
+          ap (runs (length (text_of c.args.lexer.now)) (want K) c.args.draft.now.words) (next_none (left c.args.lexer.now) (left c.next.new.self) c.in_default.is c.in_ok-place.ensures.answer)
           ∙ at_end _ _ (want K)
-          ∙ ap (λ n. refused (EndsEarly n)) (sym (c.text-len.ensures.value ∙ ap length c.next.ensures.same_text));
+          ∙ ap (λ n. refused (EndsEarly n)) (sym (c.text_len.ensures.value ∙ ap length c.next.ensures.same_text));
       same_text = c.next.ensures.same_text;
     }
 
@@ -251,7 +251,7 @@ unit-returns-in-Close t c =
     record {
       read =
           λ K h.
-          ap (runs (length (text_of c.args.lexer.now)) (want K) c.args.draft.now.words) (next_some (left c.args.lexer.now) (left c.next.new.self) c.in-Some.is c.in-ok-place.ensures.answer)
+          ap (runs (length (text_of c.args.lexer.now)) (want K) c.args.draft.now.words) (next_some (left c.args.lexer.now) (left c.next.new.self) c.in-Some.is c.in_ok-place.ensures.answer)
           ∙ ap (λ x. runs (length (text_of c.args.lexer.now)) (want K) c.args.draft.now.words (token c.in-Some.field-0.place x ∷ left c.next.new.self)) c.in-Close.is
           ∙ close_wanted _ _ _ K _;
       same_text = c.next.ensures.same_text;
@@ -262,8 +262,8 @@ unit-returns-in-Two t c =
     record {
       read =
           λ K h.
-          ap (runs (length (text_of c.args.lexer.now)) (want K) c.args.draft.now.words) (next_some (left c.args.lexer.now) (left c.next.new.self) c.in-Some.is c.in-ok-place.ensures.answer)
+          ap (runs (length (text_of c.args.lexer.now)) (want K) c.args.draft.now.words) (next_some (left c.args.lexer.now) (left c.next.new.self) c.in-Some.is c.in_ok-place.ensures.answer)
           ∙ ap (λ x. runs (length (text_of c.args.lexer.now)) (want K) c.args.draft.now.words (token c.in-Some.field-0.place x ∷ left c.next.new.self)) c.in-Word.is
-          ∙ two_wanted _ _ _ K c.in-Word.word _ (sym c.operands-of.ensures.value ∙ c.in-Two.is);
+          ∙ two_wanted _ _ _ K c.in-Word.word _ (sym c.operands_of.ensures.value ∙ c.in-Two.is);
       same_text = c.next.ensures.same_text;
     }

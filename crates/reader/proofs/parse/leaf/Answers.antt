@@ -5,19 +5,19 @@ use Rattle.grammar.specs.Machine.{runs, unit_done}
 use Rattle.reader.proofs.Ways.{leaf_in, leaf_many, Counted, Pushed, grown_leaf}
 use Rattle.reader.proofs.parse.leaf.Goals as goal
 
-pub returns-in-err-count : goal.returns-in-err-count
-returns-in-err-count c =
+pub returns-in_err-count : goal.returns-in_err-count
+returns-in_err-count c =
     record {
       read =
           λ n deep xs.
           let p = err_from_is_err_and c.from-residual.result c.from-residual.ensures.1 in
-          let many = c.in-err-count.ensures.counted in
+          let many = c.in_err-count.ensures.counted in
           rw (p.1, p.2, many.0) (λ K h. leaf_many n _ _ K c.args.word xs c.requires (omega arith) many.1);
     }
 
 pub returns : goal.returns
 returns c =
-    let more = c.in-ok-count.ensures in
+    let more = c.in_ok-count.ensures in
     let counted : Counted c.args.draft.now c.count.new.self = record { same = more.same; words = more.counted } in
     let pushed : Pushed c.count.new.self c.push.new.self c.args.word 0 = record { pushed = c.push.ensures.pushed; len = c.push.ensures.len; words = c.push.ensures.words } in
     record {

@@ -4,8 +4,8 @@ use Rattle.readings.specs.Gauge.{kept, measured, reading}
 use Rattle.readings.proofs.Places.{map_at, map_past}
 use Rattle.readings.proofs.gauge_list.GaugeListSource.value.Goals as goal
 
-pub returns-in-default : goal.returns-in-default
-returns-in-default c = search (rules, map_past)
+pub returns-in_default : goal.returns-in_default
+returns-in_default c = search (rules, map_past)
 
 pub returns : goal.returns
 returns c =

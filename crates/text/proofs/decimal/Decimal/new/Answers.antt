@@ -5,8 +5,8 @@ use Rattle.text.proofs.decimal.Decimal.new.Goals as goal
 pub loop-rest-init : goal.loop-rest-init
 loop-rest-init c = (omega arith, omega arith, omega arith, sym (decimal_front c.args.number (omega arith)))
 
-pub overflow-sub-from : goal.overflow-sub-from
-overflow-sub-from c =
+pub overflow_sub-from : goal.overflow_sub-from
+overflow_sub-from c =
     let inv = c.loop-rest.invariant in
     spell_room c.loop-rest.rest c.loop-rest.from c.args.number c.loop-rest.digits (omega arith) (omega arith) (omega arith) (omega arith) inv.2 inv.3
 

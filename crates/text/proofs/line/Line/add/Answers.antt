@@ -3,8 +3,8 @@ use Rattle.text.specs.Lines.{joined}
 use Rattle.text.proofs.Cuts.{length_joined_le, take_put}
 use Rattle.text.proofs.line.Line.add.Goals as goal
 
-pub invariant-of-result : goal.invariant-of-result
-invariant-of-result c =
+pub invariant_of-result : goal.invariant_of-result
+invariant_of-result c =
     let long : length c.args.self.bytes ≡ 64 = search rules in
     let fits : c.put-end.result ≤ 64 = omega (arith, length_joined_le) in
     search rules
