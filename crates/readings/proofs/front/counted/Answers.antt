@@ -3,8 +3,8 @@ use Rattle.std.proofs.Common.{arith, length-take, rules}
 use Rattle.readings.proofs.Places.{front_at, front_past}
 use Rattle.readings.proofs.front.counted.Goals as goal
 
-pub offset-bounds-list-n : goal.offset-bounds-list-n
-offset-bounds-list-n g c = omega (arith, length-take 64 c.args.list.now)
+pub offset_bounds-list-n : goal.offset_bounds-list-n
+offset_bounds-list-n g c = omega (arith, length-take 64 c.args.list.now)
 
 pub bounds-list-n : goal.bounds-list-n
 bounds-list-n g c = omega (arith, length-take 64 c.args.list.now)
