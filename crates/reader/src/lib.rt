@@ -4,7 +4,7 @@
 ghost use Rattle.std.specs.Prelude.{◌≡◌, ◌+◌, ◌<◌, ◌≤◌, [], ◌∷◌, ◌++◌, length, Err as failed, MatchResult};
 ghost use Rattle.grammar.specs.Limits.{max_words};
 ghost use Rattle.grammar.specs.Nodes.{node};
-ghost use Rattle.grammar.specs.declared.TextFault.TheVariants.{TooManyWords as tooManyWords};
+ghost use Rattle.grammar.specs.declared.TextFault.TheVariants.{TooManyWords as too_many_words};
 ghost use Rattle.grammar.specs.Grammar.{Tree};
 ghost use Rattle.grammar.specs.Refusals.{Accepts, Refused};
 ghost use Rattle.reader.specs.Rules.{nodes_in, Holds};
@@ -54,7 +54,7 @@ impl Draft {
 
     // One word more, at `place`.
     pub(crate) fn count(&mut self, place: usize) -> Result<(), TextFault>
-        ensures counted { MatchResult result (λ _. self.new.words ≡ self.old.words + 1) (λ f. (f ≡ tooManyWords place) × (self.old.words ≡ max_words)) }
+        ensures counted { MatchResult result (λ _. self.new.words ≡ self.old.words + 1) (λ f. (f ≡ too_many_words place) × (self.old.words ≡ max_words)) }
         ensures same { self.new.nodes ≡ self.old.nodes }
     {
         if self.words >= MAX_WORDS {

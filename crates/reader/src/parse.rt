@@ -4,8 +4,8 @@ ghost use Rattle.std.specs.Prelude.{◌≡◌, ℕ, ◌+◌, List, ◌∷◌, le
 ghost use Rattle.words.specs.declared.Operands.TheVariants.{Zero, One};
 ghost use Rattle.grammar.specs.Grammar.{takes};
 ghost use Rattle.grammar.specs.Machine.{Item, token};
-ghost use Rattle.grammar.specs.declared.Token.TheVariants.{Open, Word as wordToken};
-ghost use Rattle.grammar.specs.declared.TextFault.TheVariants.{TooDeep as tooDeep};
+ghost use Rattle.grammar.specs.declared.Token.TheVariants.{Open, Word as word_token};
+ghost use Rattle.grammar.specs.declared.TextFault.TheVariants.{TooDeep as too_deep};
 ghost use Rattle.lexer.specs.Answers.{left, text_of};
 ghost use Rattle.reader.specs.Reading.{ReadUnit, ReadRule, ended};
 
@@ -64,7 +64,7 @@ pub(crate) fn unit(lexer: &mut Lexer, draft: &mut Draft, deep: usize) -> Result<
 
 // The levels that are left behind a token at `place` that opens one more.
 fn deeper(deep: usize, place: usize) -> Result<usize, TextFault>
-    ensures level { MatchResult result (λ below. below + 1 ≡ deep) (λ f. (f ≡ tooDeep place) × (deep ≡ 0)) }
+    ensures level { MatchResult result (λ below. below + 1 ≡ deep) (λ f. (f ≡ too_deep place) × (deep ≡ 0)) }
 {
     if deep == 0 {
         return Err(TextFault::TooDeep(place));
@@ -75,7 +75,7 @@ fn deeper(deep: usize, place: usize) -> Result<usize, TextFault>
 // A leaf, at `place`.
 fn leaf(draft: &mut Draft, word: Word, place: usize) -> Result<(), TextFault>
     requires { takes word ≡ Zero }
-    ensures read { (n deep : ℕ) (xs : List Item) → ReadUnit n deep (token place (wordToken word) ∷ xs) draft.old result xs draft.new }
+    ensures read { (n deep : ℕ) (xs : List Item) → ReadUnit n deep (token place (word_token word) ∷ xs) draft.old result xs draft.new }
 {
     draft.count(place)?;
     draft.push(word, 0);
@@ -92,7 +92,7 @@ fn one_sided(
     place: usize,
 ) -> Result<(), TextFault>
     requires { takes word ≡ One }
-    ensures read { ReadUnit (length (text_of lexer.old)) deep (token place (wordToken word) ∷ left lexer.old) draft.old result (left lexer.new) draft.new }
+    ensures read { ReadUnit (length (text_of lexer.old)) deep (token place (word_token word) ∷ left lexer.old) draft.old result (left lexer.new) draft.new }
     ensures same_text { text_of lexer.new ≡ text_of lexer.old }
 {
     let below = deeper(deep, place)?;

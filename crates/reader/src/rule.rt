@@ -2,7 +2,7 @@
 ghost use Rattle.std.specs.Prelude.{◌≡◌, ℕ, ◌≤◌, List, take};
 ghost use Rattle.grammar.specs.Grammar.{Tree};
 ghost use Rattle.grammar.specs.Limits.{max_words};
-ghost use Rattle.grammar.specs.Nodes.{nodes as nodesOf};
+ghost use Rattle.grammar.specs.Nodes.{nodes as nodes_of};
 ghost use Rattle.grammar.specs.Refusals.{Accepts};
 
 use grammar::{MAX_WORDS, Node};
@@ -19,5 +19,5 @@ pub(crate) struct Nodes {
 pub struct Rule {
     pub(crate) nodes: Nodes,
     ghost within: { nodes.len ≤ max_words },
-    ghost accepted: { ∥ ((text : List ℕ) × (t : Tree) × Accepts text t × (take nodes.len nodes.items ≡ nodesOf 0 t)) ∥₁ },
+    ghost accepted: { ∥ ((text : List ℕ) × (t : Tree) × Accepts text t × (take nodes.len nodes.items ≡ nodes_of 0 t)) ∥₁ },
 }

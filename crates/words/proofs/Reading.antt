@@ -4,7 +4,7 @@ use Rattle.std.proofs.Common.{◌≡◌, ℕ, ◌+◌, ◌-◌, ◌*◌, ◌<◌
 use Rattle.std.proofs.lemmas.List.{at_drop_more, at_drop_all}
 use Rattle.std.proofs.lemmas.Bool.{and_parts, and_right, leb-true, leb-false, le-leb, lt-leb, le-ltb, lt-ltb}
 use Rattle.std.specs.Str.Parse.{digits_value, digits_value_after}
-use Rattle.std.specs.Char.{is_ascii_digit, digit_value as digitValue}
+use Rattle.std.specs.Char.{is_ascii_digit, digit_value as value_of_digit}
 use Rattle.std.specs.Str.{all_ascii_digits}
 use Rattle.words.specs.Lookup.{starts_number, numbered, with_digit, value_up_to}
 use Rattle.words.specs.Words.{within}
@@ -13,7 +13,7 @@ abbrev pub read_on : ℕ → ℕ → List ℕ → Option ℕ
 read_on high n [] = Some n
 read_on high n (d ∷ ds) = elim (with_digit high n d) [ None ↦ None | Some m ↦ read_on high m ds ]
 
-digit_value : (d : ℕ) → is_ascii_digit d ≡ true → digitValue d ≡ d - 48
+digit_value : (d : ℕ) → is_ascii_digit d ≡ true → value_of_digit d ≡ d - 48
 digit_value d h =
     let p = and_parts (leb 48 d) (leb d 57) h in
     rw (le-ltb d 48 (leb-true 48 d p.0), lt-ltb d 58 (omega (arith, leb-true d 57 p.1)))
@@ -21,13 +21,13 @@ digit_value d h =
 -- more digits never make the number less
 value_ge : (n : ℕ) (ds : List ℕ) → n ≤ digits_value_after 10 n ds
 value_ge n [] = omega arith
-value_ge n (d ∷ ds) = omega (arith, value_ge (n * 10 + digitValue d) ds)
+value_ge n (d ∷ ds) = omega (arith, value_ge (n * 10 + value_of_digit d) ds)
 
 pub read_value : (high : ℕ) (ds : List ℕ) (n : ℕ) → n ≤ high → read_on high n ds ≡ cond (all_ascii_digits ds && leb (digits_value_after 10 n ds) high) (Some (digits_value_after 10 n ds)) None
 read_value high [] n h = rw (le-leb n high h)
 read_value high (d ∷ ds) n h = go (is_ascii_digit d) refl (leb (n * 10 + (d - 48)) high) refl (read_value high ds (n * 10 + (d - 48)))
   where
-    go : (t : Bool) → is_ascii_digit d ≡ t → (s : Bool) → leb (n * 10 + (d - 48)) high ≡ s → (n * 10 + (d - 48) ≤ high → read_on high (n * 10 + (d - 48)) ds ≡ cond (all_ascii_digits ds && leb (digits_value_after 10 (n * 10 + (d - 48)) ds) high) (Some (digits_value_after 10 (n * 10 + (d - 48)) ds)) None) → elim (cond (t && s) (Some (n * 10 + (d - 48))) None) [ None ↦ None | Some m ↦ read_on high m ds ] ≡ cond ((t && all_ascii_digits ds) && leb (digits_value_after 10 (n * 10 + digitValue d) ds) high) (Some (digits_value_after 10 (n * 10 + digitValue d) ds)) None
+    go : (t : Bool) → is_ascii_digit d ≡ t → (s : Bool) → leb (n * 10 + (d - 48)) high ≡ s → (n * 10 + (d - 48) ≤ high → read_on high (n * 10 + (d - 48)) ds ≡ cond (all_ascii_digits ds && leb (digits_value_after 10 (n * 10 + (d - 48)) ds) high) (Some (digits_value_after 10 (n * 10 + (d - 48)) ds)) None) → elim (cond (t && s) (Some (n * 10 + (d - 48))) None) [ None ↦ None | Some m ↦ read_on high m ds ] ≡ cond ((t && all_ascii_digits ds) && leb (digits_value_after 10 (n * 10 + value_of_digit d) ds) high) (Some (digits_value_after 10 (n * 10 + value_of_digit d) ds)) None
     go true p true q later = rw (digit_value d p) (later (leb-true (n * 10 + (d - 48)) high q))
     go true p false q later =
         let over : high < digits_value_after 10 (n * 10 + (d - 48)) ds = omega (arith, leb-false (n * 10 + (d - 48)) high q, value_ge (n * 10 + (d - 48)) ds) in

@@ -15,7 +15,7 @@ carried {f} {g} e = let same : f ≡ g = cc in ap Err same
 pub invariant_of-result : goal.invariant_of-result
 invariant_of-result c =
     let o = c.in-Ok.ensures.outcome in
-    (o.0, (∣ (_, o.1.0, o.1.1, o.1.2) ∣₁, tt))
+    record { within = o.0; accepted = ∣ (_, o.1.0, o.1.1, o.1.2) ∣₁ }
 
 pub returns-in-Ok : goal.returns-in-Ok
 returns-in-Ok c =

@@ -17,7 +17,7 @@ pub in_parentheses-returns-in_err-below : goal.in_parentheses-returns-in_err-bel
 in_parentheses-returns-in_err-below t c =
     record {
       read =
-          let p = err_from_is_err_and c.from-residual.result c.from-residual.ensures.1 in
+          let p = err_from_is_err_and c.from_residual.result c.from_residual.ensures.1 in
           let none = c.in_err-below.ensures.level in
           rw (p.1, p.2, none.0) (λ K h. paren_deep _ _ _ c.args.deep K _ h none.1);
       same_text = refl;
@@ -27,7 +27,7 @@ pub in_parentheses-returns-in_err-next : goal.in_parentheses-returns-in_err-next
 in_parentheses-returns-in_err-next t c =
     record {
       read =
-          let p = err_from_is_err_and c.from-residual-in_err-next.result c.from-residual-in_err-next.ensures.1 in
+          let p = err_from_is_err_and c.from_residual-in_err-next.result c.from_residual-in_err-next.ensures.1 in
           rw (p.1, p.2) (λ K h. paren_in _ _ _ c.args.deep c.in_ok-below.below K _ h c.in_ok-below.ensures.level c.args.draft.now.few ∙ c.in_err-next.ensures.read (inside K) (inside_level c.args.deep c.in_ok-below.below K h c.in_ok-below.ensures.level));
       same_text = c.rule.ensures.same_text;
     }
@@ -78,7 +78,7 @@ pub one_sided-returns-in_err-below : goal.one_sided-returns-in_err-below
 one_sided-returns-in_err-below t c =
     record {
       read =
-          let p = err_from_is_err_and c.from-residual.result c.from-residual.ensures.1 in
+          let p = err_from_is_err_and c.from_residual.result c.from_residual.ensures.1 in
           let none = c.in_err-below.ensures.level in
           rw (p.1, p.2, none.0) (λ K h. one_deep _ _ _ c.args.deep K c.args.word _ c.requires h none.1);
       same_text = refl;
@@ -88,7 +88,7 @@ pub one_sided-returns-in_err-count : goal.one_sided-returns-in_err-count
 one_sided-returns-in_err-count t c =
     record {
       read =
-          let p = err_from_is_err_and c.from-residual-in_err-count.result c.from-residual-in_err-count.ensures.1 in
+          let p = err_from_is_err_and c.from_residual-in_err-count.result c.from_residual-in_err-count.ensures.1 in
           let many = c.in_err-count.ensures.counted in
           rw (p.1, p.2, many.0) (λ K h. one_many _ _ _ c.args.deep c.in_ok-below.below K c.args.word _ c.requires h c.in_ok-below.ensures.level many.1);
       same_text = refl;
@@ -99,7 +99,7 @@ one_sided-returns-in_err-unit t c =
     let more = c.in_ok-count.ensures in
     record {
       read =
-          let p = err_from_is_err_and c.from-residual-in_err-unit.result c.from-residual-in_err-unit.ensures.1 in
+          let p = err_from_is_err_and c.from_residual-in_err-unit.result c.from_residual-in_err-unit.ensures.1 in
           rw (p.1, p.2)
           (λ K h.
           one_in _ _ _ c.args.deep c.in_ok-below.below K c.args.word _ c.requires h c.in_ok-below.ensures.level (omega (arith, more.counted, c.count.new.self.few))
@@ -132,7 +132,7 @@ pub rule-returns-in_err-unit : goal.rule-returns-in_err-unit
 rule-returns-in_err-unit t c =
     record {
       read =
-          let p = err_from_is_err_and c.from-residual.result c.from-residual.ensures.1 in
+          let p = err_from_is_err_and c.from_residual.result c.from_residual.ensures.1 in
           rw (p.1, p.2) (λ K h. c.in_err-unit.ensures.read (first K) (omega (arith, first_depth K)));
       same_text = c.unit.ensures.same_text;
     }
@@ -149,7 +149,7 @@ rule-returns-in_err-next t c =
     let first-unit = had_run _ c.args.deep _ _ _ _ _ rd.0 rd.1 a.1 in
     record {
       read =
-          let p = err_from_is_err_and c.from-residual-in_err-next.result c.from-residual-in_err-next.ensures.1 in
+          let p = err_from_is_err_and c.from_residual-in_err-next.result c.from_residual-in_err-next.ensures.1 in
           rw (p.1, p.2) (λ K h. first-unit K h ∙ at_bad _ _ (had rd.0 K) _ a.0);
       same_text = c.next.ensures.same_text ∙ c.unit.ensures.same_text;
     }
@@ -183,7 +183,7 @@ rule-returns-in_err-count t c =
     let many = c.in_err-count.ensures.counted in
     record {
       read =
-          let p = err_from_is_err_and c.from-residual-in_err-count.result c.from-residual-in_err-count.ensures.1 in
+          let p = err_from_is_err_and c.from_residual-in_err-count.result c.from_residual-in_err-count.ensures.1 in
           rw (p.1, p.2, many.0) (λ K h. first-unit K h ∙ two_many _ _ _ rd.0 K c.in-Word.word _ two_sided (omega arith) many.1);
       same_text = c.next.ensures.same_text ∙ c.unit.ensures.same_text;
     }
@@ -197,7 +197,7 @@ rule-returns-in_err-unit-2 t c =
     let second-unit = want_second _ c.args.deep _ _ c.count.new.self.words _ _ _ _ rd.0 c.in-Word.word first-unit two_sided (ap length (c.next.ensures.same_text ∙ c.unit.ensures.same_text)) more.counted c.count.new.self.few in
     record {
       read =
-          let p = err_from_is_err_and c.from-residual-in_err-unit-2.result c.from-residual-in_err-unit-2.ensures.1 in
+          let p = err_from_is_err_and c.from_residual-in_err-unit-2.result c.from_residual-in_err-unit-2.ensures.1 in
           rw (p.1, p.2) (λ K h. second-unit K h ∙ c.in_err-unit-2.ensures.read (second c.in-Word.word rd.0 K) (omega (arith, second_depth c.in-Word.word rd.0 K)));
       same_text = c.unit-2.ensures.same_text ∙ c.next.ensures.same_text ∙ c.unit.ensures.same_text;
     }
@@ -229,7 +229,7 @@ pub unit-returns-in_err-place : goal.unit-returns-in_err-place
 unit-returns-in_err-place t c =
     record {
       read =
-          let p = err_from_is_err_and c.from-residual.result c.from-residual.ensures.1 in
+          let p = err_from_is_err_and c.from_residual.result c.from_residual.ensures.1 in
           let a = c.in_err-place.ensures.answer in
           rw (p.1, p.2) (λ K h. ap (runs _ (want K) _) a.1 ∙ at_bad _ _ (want K) _ a.0);
       same_text = c.next.ensures.same_text;

@@ -10,7 +10,7 @@ returns-in_err-count c =
     record {
       read =
           λ n deep xs.
-          let p = err_from_is_err_and c.from-residual.result c.from-residual.ensures.1 in
+          let p = err_from_is_err_and c.from_residual.result c.from_residual.ensures.1 in
           let many = c.in_err-count.ensures.counted in
           rw (p.1, p.2, many.0) (λ K h. leaf_many n _ _ K c.args.word xs c.requires (omega arith) many.1);
     }
