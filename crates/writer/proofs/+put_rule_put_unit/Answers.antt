@@ -7,21 +7,21 @@ use Rattle.writer.proofs.+put_rule_put_unit.Goals as goal
 pub put_rule-overflow_sub-top : goal.put_rule-overflow_sub-top
 put_rule-overflow_sub-top t c = before_at _ _ _ _ c.requires.ordered c.requires.within c.in-One.ensures.value
 
-pub put_rule_put_unit-requires : goal.put_rule_put_unit-requires
-put_rule_put_unit-requires t c =
+pub put_rule-put_unit-requires : goal.put_rule-put_unit-requires
+put_rule-put_unit-requires t c =
     let h = before_at _ _ _ _ c.requires.ordered c.requires.within c.in-One.ensures.value in
     (omega arith, (c.requires.ordered, omega arith))
 
 pub put_rule-overflow_sub-right : goal.put_rule-overflow_sub-right
 put_rule-overflow_sub-right t c = (before_at _ _ _ _ c.requires.ordered c.requires.within c.in-Two.ensures.value).0
 
-pub put_rule_put_unit-left_end-requires : goal.put_rule_put_unit-left_end-requires
-put_rule_put_unit-left_end-requires t c =
+pub put_rule-put_unit-left_end-requires : goal.put_rule-put_unit-left_end-requires
+put_rule-put_unit-left_end-requires t c =
     let h = before_at _ _ _ _ c.requires.ordered c.requires.within c.in-Two.ensures.value in
     (omega arith, (c.requires.ordered, omega arith))
 
-pub put_rule_put_unit-requires-in-Two : goal.put_rule_put_unit-requires-in-Two
-put_rule_put_unit-requires-in-Two t c =
+pub put_rule-put_unit-requires-in-Two : goal.put_rule-put_unit-requires-in-Two
+put_rule-put_unit-requires-in-Two t c =
     let h = before_at _ _ _ _ c.requires.ordered c.requires.within c.in-Two.ensures.value in
     (omega arith, (c.requires.ordered, omega arith))
 
@@ -30,7 +30,7 @@ put_rule-returns-in-Zero t c = record { text = λ u T. top_zero _ _ _ u c.in-Zer
 
 pub put_rule-returns-in-One : goal.put_rule-returns-in-One
 put_rule-returns-in-One t c =
-    let space = puts_piece (32 ∷ []) refl c.put_unit-at.ensures.place c.put_unit-at.ensures.memory in
+    let space = puts_piece (32 ∷ []) refl c.put-unit_at.ensures.place c.put-unit_at.ensures.memory in
     record {
       text = λ u T. top_one _ _ _ u c.in-One.ensures.value T
           (λ v V. puts_then c.put_word-word_end.ensures.text (puts_then space (c.put_unit.ensures.text v V)));
@@ -38,7 +38,7 @@ put_rule-returns-in-One t c =
 
 pub put_rule-returns-in-Two : goal.put_rule-returns-in-Two
 put_rule-returns-in-Two t c =
-    let before = puts_piece (32 ∷ []) refl c.put_word-at.ensures.place c.put_word-at.ensures.memory in
+    let before = puts_piece (32 ∷ []) refl c.put-word_at.ensures.place c.put-word_at.ensures.memory in
     let behind = puts_piece (32 ∷ []) refl c.put-right_at.ensures.place c.put-right_at.ensures.memory in
     record {
       text = λ u T. top_two _ _ _ u c.in-Two.ensures.value T
@@ -47,6 +47,6 @@ put_rule-returns-in-Two t c =
 
 pub put_unit-returns-in-Two : goal.put_unit-returns-in-Two
 put_unit-returns-in-Two t c =
-    let open-paren = puts_piece (40 ∷ []) refl c.put_rule-at.ensures.place c.put_rule-at.ensures.memory in
-    let close-paren = puts_piece (41 ∷ []) refl c.put.ensures.place c.put.ensures.memory in
-    record { text = λ u T. in_parens _ _ _ u c.in-Two.ensures.value T (puts_then open-paren (puts_then (c.put_rule-rule_end.ensures.text u T) close-paren)) }
+    let open_paren = puts_piece (40 ∷ []) refl c.put-rule_at.ensures.place c.put-rule_at.ensures.memory in
+    let close_paren = puts_piece (41 ∷ []) refl c.put.ensures.place c.put.ensures.memory in
+    record { text = λ u T. in_parens _ _ _ u c.in-Two.ensures.value T (puts_then open_paren (puts_then (c.put_rule-rule_end.ensures.text u T) close_paren)) }
