@@ -14,9 +14,9 @@ use Rattle.listing.proofs.answer.Goals as goal
 abbrev within : List ℕ → Type 0
 within line = length line ≤ max_line
 
-pub returns-then-input-gt-MAX-INPUT : goal.returns-then-input-gt-MAX-INPUT
-returns-then-input-gt-MAX-INPUT c =
-    let mine = too_long c.if-input-gt-MAX-INPUT.true in
+pub returns-then-input-gt-MAX_INPUT : goal.returns-then-input-gt-MAX_INPUT
+returns-then-input-gt-MAX_INPUT c =
+    let mine = too_long c.if-input-gt-MAX_INPUT.true in
     let same : refusal_line c.number.result c.place.result ≡ refusal_line 44 max_input = ap₂ refusal_line c.number.ensures.value c.place.ensures.value in
     let P : List ℕ → Type 0 = λ y. Written c.args.out.now c.refusal_line.new.out y c.refusal_line.result in
     let short : within (refusal_line 44 max_input) = omega (arith, refusal_length 44 max_input (omega arith) (omega arith)) in
@@ -31,7 +31,7 @@ pub returns-in-Ok : goal.returns-in-Ok
 returns-in-Ok c =
     let o = c.in-Ok.ensures.reading.outcome in
     let here : Accepts (first_line c.args.input.now) o.0 = subst (λ x. Accepts x o.0) c.first_line.ensures.value o.1 in
-    let mine = a_rule c.if-input-gt-MAX-INPUT.false here in
+    let mine = a_rule c.if-input-gt-MAX_INPUT.false here in
     let P : List ℕ → Type 0 = λ y. Written c.args.out.now c.rule_line.new.out y c.rule_line.result in
     let tree : TreeOf c.in-Ok.rule o.0 = record { text = _; accepted = o.1; nodes = o.2 } in
     record {
@@ -45,7 +45,7 @@ pub returns-in-Err : goal.returns-in-Err
 returns-in-Err c =
     let f = c.in-Err.fault in
     let here : Refused (first_line c.args.input.now) f = subst (λ x. Refused x f) c.first_line.ensures.value c.in-Err.ensures.reading.outcome in
-    let mine = no_rule c.if-input-gt-MAX-INPUT.false here in
+    let mine = no_rule c.if-input-gt-MAX_INPUT.false here in
     let same : refusal_line c.number-in-Err.result c.place-in-Err.result ≡ refusal_line (number f) (place f) = ap₂ refusal_line c.number-in-Err.ensures.value c.place-in-Err.ensures.value in
     let P : List ℕ → Type 0 = λ y. Written c.args.out.now c.refusal_line-in-Err.new.out y c.refusal_line-in-Err.result in
     let bound : within (refusal_line c.number-in-Err.result c.place-in-Err.result) = omega (arith, refusal_length c.number-in-Err.result c.place-in-Err.result (omega arith) (omega arith)) in
