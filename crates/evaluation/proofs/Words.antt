@@ -1,7 +1,7 @@
 -- What one step makes of its operands and its cell is what its word makes of them by looking back.
 --   Own         of a step: it is like its pattern but for its numbers, and its value is v where its cell holds what H says
 --   Does        this, for the step and the sense of one word
-use Rattle.std.proofs.Common.{◌≡◌, ℕ, suc, false, cond, List, sym, refl}
+use Rattle.std.proofs.Common.{◌≡◌, ℕ, suc, cond, List, sym, refl}
 use Rattle.words.specs.declared.Operator.{Operator}
 use Rattle.words.specs.declared.Operator.TheVariants.{And, Or, Implies, Since, Rsince, Not, Before, Rbefore, Once, Ronce, Always, Ralways, Rise, Fall, True, False, Step, Call, Begin, End, Return, Predicate, Routine}
 use Rattle.kinds.specs.Algebra.{Algebra}

@@ -4,7 +4,7 @@
 --                          unfinished one-sided words; `ok` says which depths are allowed
 --   Begins ok ts           some rule begins with the tokens ts
 --   words ts               how many of the tokens are words
-use Rattle.std.specs.Prelude.{◌≡◌, ℕ, suc, ◌+◌, ◌≤◌, List, [], ◌∷◌, ◌++◌}
+use Rattle.std.specs.Prelude.{◌≡◌, ℕ, suc, ◌≤◌, List, [], ◌∷◌, ◌++◌}
 use Rattle.words.specs.Words.{operands}
 use Rattle.words.specs.declared.Word.{Word}
 use Rattle.words.specs.declared.Operands.{Operands}

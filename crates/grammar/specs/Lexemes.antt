@@ -3,7 +3,7 @@
 --   lexemes at bs      the pieces of the bytes bs, the first of which stands at the place `at`
 --   Means x t          the piece x is the token t
 --   Spells xs ts       the pieces xs are the tokens ts, one by one
-use Rattle.std.specs.Prelude.{ℕ, suc, Bool, true, false, cond, ◌&&◌, ◌||◌, List, [], ◌∷◌, ◌==◌, nat_le}
+use Rattle.std.specs.Prelude.{ℕ, suc, Bool, false, cond, ◌&&◌, ◌||◌, List, [], ◌∷◌, ◌==◌, nat_le}
 use Rattle.words.specs.Words.{Names}
 use Rattle.words.specs.declared.Word.{Word}
 use Rattle.grammar.specs.declared.Token.{Token}

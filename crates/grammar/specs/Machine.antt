@@ -4,7 +4,7 @@
 --   Context        what stands around the part that is read now
 --   State          a unit is wanted, a rule's first unit stands, or a whole rule stands
 --   step, runs     one token; all of them
-use Rattle.std.specs.Prelude.{ℕ, suc, ◌+◌, Bool, cond, List, [], ◌∷◌, length, Some, None, Option, nat_le}
+use Rattle.std.specs.Prelude.{ℕ, suc, cond, List, [], ◌∷◌, length, Some, None, Option, nat_le}
 use Rattle.words.specs.declared.Word.{Word}
 use Rattle.words.specs.declared.Operands.{Operands}
 use Rattle.words.specs.declared.Operands.TheVariants.{Zero, One, Two}

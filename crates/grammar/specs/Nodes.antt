@@ -1,7 +1,7 @@
 -- The nodes of a tree: left operand, right operand, node.
 --   size t         how many words the tree has
 --   nodes at t     its nodes, the first of which has the number `at`
-use Rattle.std.specs.Prelude.{ℕ, suc, ◌+◌, ◌-◌, List, [], ◌∷◌, ◌++◌}
+use Rattle.std.specs.Prelude.{ℕ, ◌+◌, ◌-◌, List, [], ◌∷◌, ◌++◌}
 use Rattle.words.specs.declared.Word.{Word}
 use Rattle.grammar.specs.Grammar.{Tree, leaf, one, two}
 use Rattle.grammar.specs.declared.Node.{Node}

@@ -6,7 +6,7 @@ use Rattle.std.specs.Prelude.{◌≡◌, ℕ, ◌<◌, ◌≤◌, List, [], ◌�
 use Rattle.words.specs.Words.{Names}
 use Rattle.words.specs.declared.Word.{Word}
 use Rattle.grammar.specs.Limits.{max_text, max_words}
-use Rattle.grammar.specs.Lexemes.{Lexeme, run, stray, Placed, lexemes, Means, Spells}
+use Rattle.grammar.specs.Lexemes.{run, stray, Placed, lexemes, Means, Spells}
 use Rattle.grammar.specs.Grammar.{Tree, IsRule, Begins, any_depth, in_depth, words}
 use Rattle.grammar.specs.declared.Token.{Token}
 use Rattle.grammar.specs.declared.TextFault.{TextFault}

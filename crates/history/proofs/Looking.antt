@@ -1,5 +1,5 @@
 -- The recurrences, and what is seen from an event.
-use Rattle.std.proofs.Common.{suc, true, false, sym, refl, ◌∙◌, arith}
+use Rattle.std.proofs.Common.{suc, true, sym, refl, ◌∙◌, arith}
 use native.Mathlib.Decide.{dec_le}
 use borrow.Author.Tests.{clash}
 use Rattle.kinds.specs.Algebra.{Algebra, Laws}

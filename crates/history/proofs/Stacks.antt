@@ -10,7 +10,7 @@ use Rattle.reels.specs.declared.EventKind.{EventKind}
 use Rattle.reels.specs.declared.EventKind.TheVariants.{Step, Call, Begin, End, Return}
 use Rattle.history.specs.Moments.{event_at, same_kind, is, tally, open_at, latest, call_of}
 use Rattle.history.specs.Calls.{after, calls}
-use Rattle.history.proofs.Runs.{Phase, calm, called, ended, Run, done, on_step, on_call, on_begin, on_end, on_return}
+use Rattle.history.proofs.Runs.{Phase, calm, called, ended, Run, on_step, on_call, on_begin, on_end, on_return}
 
 pub record Cell (es : List Event) (n c l : ℕ) : Type 0 where
   pub first : 1 ≤ c

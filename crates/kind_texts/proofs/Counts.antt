@@ -1,5 +1,5 @@
 -- The counts of a zone word, as its meaning has them and as the word's bits give them.
-use Rattle.std.proofs.Common.{◌≡◌, ℕ, zero, suc, ◌+◌, ◌-◌, ◌/◌, ◌%◌, ◌^◌, ◌<◌, ◌≤◌, Bool, true, false, cond, not, eqb, ◌∷◌, count_by, sym, refl, ap, ◌∙◌, subst, true≢false, div-one, arith, shr-shr, shr_lt}
+use Rattle.std.proofs.Common.{◌≡◌, ℕ, zero, suc, ◌+◌, ◌-◌, ◌/◌, ◌%◌, ◌^◌, ◌<◌, ◌≤◌, Bool, true, false, cond, not, eqb, count_by, sym, refl, ap, ◌∙◌, subst, true≢false, div-one, arith, shr-shr, shr_lt}
 use mathlib.Core.Bool.{false≢true}
 use lib.Count.{ones, under, count_trailing_zeros, ones_step, ones-le}
 use Rattle.std.specs.List.{prefix_len}

@@ -1,5 +1,5 @@
 -- Holding numbers within the ends of a margin keeps which is the lesser and which the greater.
-use Rattle.std.proofs.Common.{◌≡◌, ℤ, ap, arith}
+use Rattle.std.proofs.Common.{◌≡◌, ℤ, arith}
 use Rattle.std.specs.Int.{int_min, int_max}
 use Rattle.std.proofs.lemmas.Int.{by_lt_z, ints, clamps}
 use Rattle.kinds.specs.Margin.{held, lesser, greater}

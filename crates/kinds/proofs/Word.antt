@@ -1,6 +1,6 @@
 -- The bits of a word under the bitwise operations.
-use Rattle.std.proofs.Common.{◌≡◌, ℕ, zero, suc, ◌+◌, ◌-◌, ◌*◌, ◌/◌, ◌%◌, ◌^◌, ◌<◌, ◌≤◌, min, max, Bool, true, false, not, ◌&&◌, ◌||◌, eqb, sym, refl, ap, ◌∙◌, div-one, arith}
-use native.Mathlib.Nat.{pow-zero, pow-succ', zero-div, div-div-eq-div-mul}
+use Rattle.std.proofs.Common.{◌≡◌, ℕ, zero, suc, ◌-◌, ◌/◌, ◌%◌, ◌^◌, ◌<◌, Bool, false, not, ◌&&◌, ◌||◌, eqb, sym, ap, ◌∙◌, div-one, arith}
+use native.Mathlib.Nat.{pow-succ', zero-div, div-div-eq-div-mul}
 use lib.Bits.{bit_and, bit_or, and_step, or_step, and_shr, or_shr}
 use Rattle.std.proofs.lemmas.Bool.Decides.{nat_tests}
 use Rattle.kinds.specs.Zones.{bit}

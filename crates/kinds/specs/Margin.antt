@@ -6,7 +6,7 @@
 --   lesser x y, greater x y        of two margins
 --   margin                         and is the lesser, or the greater, not the opposite, the ends are false and true
 --   margin_means m                 what a kept margin means
-use Rattle.std.specs.Prelude.{ℕ, ℤ, pos, neg_ℤ, ◌≤ℤ◌}
+use Rattle.std.specs.Prelude.{ℤ, pos, neg_ℤ, ◌≤ℤ◌}
 use Rattle.std.proofs.Common.{arith}
 use Rattle.std.specs.Int.{int_min, int_max}
 use Rattle.std.proofs.lemmas.Int.{ints, clamps}

@@ -1,5 +1,5 @@
 -- That the margin kind keeps the laws, as its impl has to show: margins of one value are one, and the rest is arithmetic.
-use Rattle.std.specs.Prelude.{◌≡◌, ℕ, ℤ, pos, neg_ℤ, ◌≤ℤ◌, int_le}
+use Rattle.std.specs.Prelude.{◌≡◌, ℤ, neg_ℤ, ◌≤ℤ◌, int_le}
 use Rattle.std.proofs.Common.{ap, arith}
 use Rattle.std.proofs.Math.Dec.{T_prop}
 use mathlib.Core.HLevel.{is_prop→PathP}

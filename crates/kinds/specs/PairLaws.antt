@@ -1,5 +1,4 @@
 -- That a pair of kinds keeps the laws, as its impl has to show: part by part.
-use Rattle.std.specs.Prelude.{◌≡◌}
 use Rattle.std.proofs.Common.{ap}
 use Rattle.kinds.specs.Algebra.{Algebra, Laws}
 use Rattle.kinds.specs.Pair.{both}

@@ -3,7 +3,6 @@ use Rattle.std.specs.Prelude.{◌≡◌, ℕ, refl}
 use Rattle.std.proofs.Common.{arith}
 use Rattle.kinds.specs.Algebra.{Laws}
 use Rattle.kinds.specs.Three.{three}
-use Rattle.kinds.specs.declared.three.Three.{Three}
 use Rattle.kinds.specs.declared.three.Three.TheVariants.{No, Unknown, Yes}
 
 apart : Yes ≡ No → ⊥

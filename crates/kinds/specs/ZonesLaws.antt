@@ -1,5 +1,4 @@
 -- That the zone kind keeps the laws, as its impl has to show: they hold at each zone, and there is a zone.
-use Rattle.std.specs.Prelude.{◌≡◌, ◌<◌}
 use Rattle.std.proofs.Common.{ap, arith}
 use Rattle.kinds.specs.Algebra.{Algebra, Laws}
 use Rattle.kinds.specs.TwoLaws.{two_laws}

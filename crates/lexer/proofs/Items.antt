@@ -1,10 +1,10 @@
 -- The first item of what is left of a text, by the byte at its first place.
-use Rattle.std.proofs.Common.{◌≡◌, ℕ, suc, ◌+◌, ◌-◌, ◌<◌, ◌≤◌, Bool, true, false, cond, List, [], ◌∷◌, ◌++◌, length, get_or, take, drop, sym, refl, ap, ◌∙◌, subst, ap₂, add-one, one-add, arith}
+use Rattle.std.proofs.Common.{◌≡◌, ℕ, suc, ◌+◌, ◌-◌, ◌<◌, ◌≤◌, true, false, List, [], ◌∷◌, length, get_or, take, drop, sym, ap, ◌∙◌, ap₂, arith}
 use Rattle.std.specs.List.{prefix_len}
 use Rattle.std.proofs.lemmas.List.{drop_more, drop_all, drop-drop}
 use Rattle.std.proofs.lemmas.List.Sums.{prefix_len-drop_yes}
 use Rattle.std.proofs.lemmas.Bool.Decides.{nat_tests}
-use Rattle.grammar.specs.Lexemes.{Class, opening, closing, other, is_letter, class, Lexeme, opens, closes, run, stray, Placed, lexemes}
+use Rattle.grammar.specs.Lexemes.{opening, closing, other, is_letter, class, Lexeme, opens, closes, run, stray, Placed, lexemes}
 use Rattle.grammar.specs.Machine.{Item, items, items_of, lexeme_item}
 use Rattle.lexer.proofs.Pieces.{at_place, at_class, run_first, letters}
 

@@ -1,10 +1,10 @@
 -- The first piece of a text, by the class of its first byte.
-use Rattle.std.proofs.Common.{◌≡◌, ℕ, suc, ◌+◌, ◌-◌, ◌<◌, ◌≤◌, Bool, true, false, cond, eqb, leb, List, [], ◌∷◌, ◌++◌, length, get_or, take, drop, sym, refl, ap, ◌∙◌, subst, ⊎_elim, add-zero, add-suc, add-one, one-add, arith}
+use Rattle.std.proofs.Common.{◌≡◌, ℕ, suc, ◌+◌, ◌<◌, true, false, List, [], ◌∷◌, length, get_or, take, drop, sym, refl, ap, ◌∙◌, ⊎_elim, add-zero, add-one, one-add, arith}
 use Rattle.std.specs.List.{prefix_len}
 use Rattle.std.proofs.lemmas.List.{drop_more}
 use Rattle.std.proofs.lemmas.Bool.{cond-true, cond-false, cases_Bool}
 use Rattle.std.proofs.lemmas.Bool.Decides.{nat_tests}
-use Rattle.grammar.specs.Lexemes.{Class, space, opening, closing, letter, other, is_letter, class, starts_run, Lexeme, opens, closes, run, stray, Placed, with_byte, on_first, longer, lexemes}
+use Rattle.grammar.specs.Lexemes.{Class, space, letter, is_letter, class, starts_run, Lexeme, run, Placed, with_byte, on_first, longer, lexemes}
 
 abbrev pub at_place : ℕ → Lexeme → Placed
 at_place i x = record { place = i; lexeme = x }

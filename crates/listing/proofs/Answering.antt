@@ -1,5 +1,5 @@
 -- An input has one line.
-use Rattle.std.proofs.Common.{◌≡◌, ℕ, ◌<◌, ◌≤◌, List, length, sym, refl, ap, ◌∙◌, subst, arith}
+use Rattle.std.proofs.Common.{◌≡◌, ℕ, ◌<◌, ◌≤◌, List, length, sym, refl, ap, subst, arith}
 use Rattle.grammar.specs.Faults.{number, place}
 use Rattle.grammar.specs.Grammar.{Tree}
 use Rattle.grammar.specs.Layout.{layout}

@@ -1,11 +1,11 @@
 -- Two texts and their readings, by which a wrong reader is shut out.
-use Rattle.std.proofs.Common.{◌≡◌, ℕ, true, false, List, [], ◌∷◌, is_err, IfOk, Ok, Err, codes, Result, sym, refl, ap, ◌∙◌, arith, MatchResult}
+use Rattle.std.proofs.Common.{◌≡◌, ℕ, true, List, ◌∷◌, is_err, IfOk, Ok, Err, codes, Result, sym, refl, ap, ◌∙◌, arith, MatchResult}
 use Rattle.words.specs.declared.Operator.TheVariants.{True, False}
 use Rattle.words.specs.Lookup.{lookup}
 use Rattle.grammar.specs.Lexemes.{lexemes}
 use Rattle.grammar.specs.Grammar.{Tree, leaf}
 use Rattle.grammar.specs.Machine.{items_of, step, unit_done, depth, runs, outcome, accepted}
-use Rattle.grammar.specs.Nodes.{nodes, node}
+use Rattle.grammar.specs.Nodes.{nodes}
 use Rattle.grammar.specs.Refusals.{Accepts}
 use Rattle.grammar.specs.declared.Node.{Node}
 use Rattle.grammar.specs.declared.TextFault.{TextFault}

@@ -1,16 +1,16 @@
 -- The machine's steps, one for each way through the reader's functions.
-use Rattle.std.proofs.Common.{◌≡◌, ℕ, suc, ◌+◌, ◌<◌, ◌≤◌, Bool, true, false, cond, leb, List, [], ◌∷◌, Some, None, Option, sym, refl, ap, ◌∙◌, arith}
+use Rattle.std.proofs.Common.{◌≡◌, ℕ, suc, ◌<◌, ◌≤◌, leb, List, [], ◌∷◌, Some, None, Option, sym, refl, ap, ◌∙◌, arith}
 use Rattle.std.proofs.lemmas.Bool.{cond-true, cond-false, le-leb, lt-leb}
 use Rattle.words.specs.declared.Word.{Word}
 use Rattle.words.specs.declared.Operands.{Operands}
 use Rattle.words.specs.declared.Operands.TheVariants.{Zero, One, Two}
 use Rattle.grammar.specs.Limits.{max_depth, max_words}
-use Rattle.grammar.specs.Grammar.{Tree, leaf, one, two, Part, rule, unit, takes}
-use Rattle.grammar.specs.Machine.{Item, token, bad, Context, whole, inside, first, second, under, depth, State, want, had, full, state_depth, unit_done, closed, want_word, had_word, step, Outcome, accepted, refused, ends, counted, goes_on, runs}
+use Rattle.grammar.specs.Grammar.{Tree, one, two, rule, unit, takes}
+use Rattle.grammar.specs.Machine.{Item, token, bad, Context, whole, inside, first, second, under, depth, State, want, had, full, state_depth, unit_done, want_word, had_word, step, refused, ends, counted, goes_on, runs}
 use Rattle.grammar.specs.declared.Token.{Token}
 use Rattle.grammar.specs.declared.Token.TheVariants.{Open, Close, Word as word}
 use Rattle.grammar.specs.declared.TextFault.{TextFault}
-use Rattle.grammar.specs.declared.TextFault.TheVariants.{Misplaced, EndsEarly, TooDeep, TooManyWords}
+use Rattle.grammar.specs.declared.TextFault.TheVariants.{Misplaced, TooDeep, TooManyWords}
 
 -- one token, by the state that it leads to
 taken : (n p k : ℕ) (S : State) (t : Token) (xs : List Item) (r : Option State) → step S t ≡ r → runs n S k (token p t ∷ xs) ≡ goes_on p (counted t k) r (λ S'. runs n S' (counted t k) xs)

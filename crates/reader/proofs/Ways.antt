@@ -1,23 +1,22 @@
 -- What each way through the reader's functions comes to.
-use Rattle.std.proofs.Common.{◌≡◌, ℕ, suc, ◌+◌, ◌-◌, ◌<◌, ◌≤◌, List, [], ◌∷◌, ◌++◌, take, Some, None, Ok, Err, Option, Result, sym, refl, ap, ◌∙◌, subst, ap₂, add-one, arith}
+use Rattle.std.proofs.Common.{◌≡◌, ℕ, ◌+◌, ◌-◌, ◌<◌, ◌≤◌, List, [], ◌∷◌, ◌++◌, take, Some, None, Ok, Err, Option, Result, sym, refl, ap, ◌∙◌, subst, ap₂, add-one, arith}
 use Rattle.std.proofs.lemmas.List.{append_assoc}
 use Rattle.words.specs.declared.Word.{Word}
 use Rattle.words.specs.declared.Operands.TheVariants.{Zero, One, Two}
 use Rattle.grammar.specs.Limits.{max_depth, max_words}
 use Rattle.grammar.specs.Grammar.{Tree, leaf, one, two, rule, unit, takes}
-use Rattle.grammar.specs.Machine.{Item, token, bad, Context, inside, first, second, under, depth, State, want, had, full, state_depth, unit_done, Outcome, refused, ends, runs}
+use Rattle.grammar.specs.Machine.{Item, token, Context, inside, first, second, under, depth, want, had, full, unit_done, refused, runs}
 use Rattle.grammar.specs.Nodes.{size, node, nodes}
-use Rattle.grammar.specs.declared.Node.{Node}
 use Rattle.grammar.specs.declared.Token.{Token}
 use Rattle.grammar.specs.declared.Token.TheVariants.{Open, Close, Word as word}
 use Rattle.grammar.specs.declared.TextFault.{TextFault}
-use Rattle.grammar.specs.declared.TextFault.TheVariants.{Misplaced, EndsEarly, TooDeep, TooManyWords}
+use Rattle.grammar.specs.declared.TextFault.TheVariants.{Misplaced, TooDeep, TooManyWords}
 use Rattle.lexer.specs.Answers.{Next}
 use Rattle.lexer.specs.declared.Placed.{Placed}
 use Rattle.reader.specs.Drafts.{drafted}
-use Rattle.reader.specs.Reading.{Grown, behind, ReadUnit, ReadRule}
+use Rattle.reader.specs.Reading.{Grown, behind, ReadRule}
 use Rattle.reader.specs.declared.draft.Draft.{Draft}
-use Rattle.reader.proofs.Steps.{moves, misplaced, too_deep, too_many, at_end, at_bad, done_depth, want_open, want_close, want_word_lem, inside_depth, under_depth, first_depth, second_depth, under_done, first_done, second_done, had_two, NoTwo, as_full, full_close, NoClose, full_other}
+use Rattle.reader.proofs.Steps.{moves, misplaced, too_deep, too_many, at_end, at_bad, done_depth, want_open, want_close, want_word_lem, inside_depth, under_depth, first_depth, second_depth, first_done, had_two, NoTwo, as_full, full_close, NoClose, full_other}
 
 -- the lexer's answers, once it is known which one came
 pub next_none : (xs ys : List Item) {o : Option Placed} → o ≡ None → Next xs (Ok o) ys → xs ≡ []

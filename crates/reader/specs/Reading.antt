@@ -5,7 +5,7 @@
 use Rattle.std.specs.Prelude.{◌≡◌, ℕ, ◌+◌, List, ◌∷◌, ◌++◌, Some, None, Ok, Err, Option, Result}
 use Rattle.grammar.specs.Limits.{max_depth}
 use Rattle.grammar.specs.Grammar.{Tree, rule, unit}
-use Rattle.grammar.specs.Machine.{Item, token, Context, depth, first, State, want, full, unit_done, Outcome, refused, ends, runs}
+use Rattle.grammar.specs.Machine.{Item, token, Context, depth, first, want, full, unit_done, Outcome, refused, ends, runs}
 use Rattle.grammar.specs.Nodes.{size, nodes}
 use Rattle.grammar.specs.declared.TextFault.{TextFault}
 use Rattle.grammar.specs.declared.TextFault.TheVariants.{Misplaced}

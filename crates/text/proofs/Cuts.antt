@@ -1,5 +1,5 @@
 -- Texts that are cut at a length.
-use Rattle.std.proofs.Common.{◌≡◌, ℕ, ◌+◌, ◌-◌, ◌<◌, ◌≤◌, min, List, ◌++◌, length, take, drop, sym, refl, ap, ◌∙◌, inl, inr, arith, length-append, take_all, take-take, take_at}
+use Rattle.std.proofs.Common.{◌≡◌, ℕ, ◌+◌, ◌-◌, ◌≤◌, min, List, ◌++◌, length, take, drop, sym, ap, ◌∙◌, inl, inr, arith, length-append, take_all, take-take, take_at}
 use borrow.Rule.Slice.PartMut.{put_mid}
 use lib.Seq.{take-append-add, take-append-le}
 use Rattle.std.proofs.lemmas.List.{length-take, length-take-le}

@@ -1,11 +1,10 @@
 -- Each way through `answer` has its line; an input has no other.
 use Rattle.std.proofs.Common.{◌≡◌, ℕ, ◌≤◌, List, length, subst, ap₂, arith}
 use Rattle.grammar.specs.Faults.{number, place}
-use Rattle.grammar.specs.Layout.{layout}
 use Rattle.grammar.specs.Refusals.{Accepts, Refused}
 use Rattle.reader.specs.Rules.{TreeOf}
 use Rattle.text.specs.Writing.{Written}
-use Rattle.listing.specs.Lines.{max_line, refusal_line, rule_line}
+use Rattle.listing.specs.Lines.{max_line, refusal_line}
 use Rattle.listing.specs.Input.{max_input, first_line, too_long, a_rule, no_rule}
 use Rattle.listing.proofs.Answering.{one_line, of_each}
 use Rattle.listing.proofs.Joining.{refusal_length}

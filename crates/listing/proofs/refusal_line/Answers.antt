@@ -1,4 +1,4 @@
-use Rattle.std.proofs.Common.{◌≡◌, ℕ, List, ◌++◌, take, decimal, sym, ap, ◌∙◌, subst, arith}
+use Rattle.std.proofs.Common.{◌≡◌, ℕ, List, ◌++◌, take, decimal, ap, ◌∙◌, subst, arith}
 use Rattle.text.specs.Lines.{content}
 use Rattle.text.specs.Writing.{Written}
 use Rattle.listing.specs.Lines.{refusal_line}

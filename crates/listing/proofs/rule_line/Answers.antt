@@ -1,8 +1,7 @@
-use Rattle.std.proofs.Common.{◌≡◌, ℕ, ◌+◌, ◌≤◌, List, [], ◌∷◌, length, take, sym, ap, ◌∙◌, subst, arith, rules}
+use Rattle.std.proofs.Common.{ℕ, ◌+◌, ◌≤◌, List, [], ◌∷◌, length, take, ap, ◌∙◌, subst, arith, rules}
 use native.Mathlib.Nat.{sub-zero}
 use Rattle.grammar.specs.Layout.{layout}
 use Rattle.text.specs.Writing.{Written}
-use Rattle.listing.specs.Lines.{rule_line}
 use Rattle.listing.proofs.Joining.{put_within, rule_length, text_then}
 use Rattle.listing.proofs.rule_line.Goals as goal
 

@@ -1,9 +1,7 @@
-use Rattle.std.proofs.Common.{◌≡◌, length, Err, sym, refl, ap, ◌∙◌, subst, arith}
+use Rattle.std.proofs.Common.{Err, sym, ap, ◌∙◌, subst, arith}
 use Rattle.std.proofs.lemmas.Result.{err_from_is_err_and}
-use Rattle.grammar.specs.Machine.{outcome, accepted, refused, whole}
-use Rattle.grammar.specs.declared.TextFault.TheVariants.{Misplaced}
-use Rattle.lexer.specs.Answers.{left, text_of}
-use Rattle.reader.specs.Reading.{behind}
+use Rattle.grammar.specs.Machine.{whole}
+use Rattle.lexer.specs.Answers.{left}
 use Rattle.reader.proofs.Whole.{Promised, promised_err, promised_ok, long_outcome, fits_short, short_outcome, whole_level, whole_outcome, not_ended, has_ended, drafted_all}
 use Rattle.reader.proofs.read_nodes.Goals as goal
 

@@ -3,7 +3,6 @@ use Rattle.std.proofs.Common.{◌≡◌, ℕ, ◌+◌, ◌<◌, List, map, lengt
 use Rattle.std.proofs.lemmas.List.{at_drop_more, at_drop_all}
 use Rattle.words.specs.Lookup.{line_of, fit, or_else, seek}
 use Rattle.words.specs.declared.Row.{Row}
-use Rattle.words.specs.declared.Word.{Word}
 use Rattle.words.proofs.find_in.Goals as goal
 
 -- one row of those that are left

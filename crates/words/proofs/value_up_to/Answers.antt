@@ -1,5 +1,5 @@
 -- The answers of `value_up_to`: the turns of its loop and its two ends.
-use Rattle.std.proofs.Common.{sym, ◌∙◌}
+use Rattle.std.proofs.Common.{sym}
 use Rattle.words.proofs.Reading.{read_more, read_stop, read_all}
 use Rattle.words.proofs.value_up_to.Goals as goal
 

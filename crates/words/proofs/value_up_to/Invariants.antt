@@ -1,5 +1,5 @@
 -- The invariant of `value_up_to`: what is left of the digits, read on from the number so far, gives the answer.
-use Rattle.std.proofs.Common.{◌≡◌, ◌≤◌, drop}
+use Rattle.std.proofs.Common.{◌≡◌, drop}
 use Rattle.words.proofs.Reading.{read_on}
 use Rattle.words.proofs.value_up_to.Given as goal
 

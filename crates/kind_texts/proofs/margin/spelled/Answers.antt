@@ -1,6 +1,5 @@
-use Rattle.std.proofs.Common.{◌≡◌, ◌/◌, ◌%◌, ◌^◌, ◌<◌, [], ◌++◌, take, nat_abs, codes, decimal, refl, ap, ◌∙◌, arith, take_all, rules}
+use Rattle.std.proofs.Common.{◌≡◌, ◌/◌, ◌%◌, ◌^◌, ◌<◌, [], nat_abs, codes, decimal, refl, ap, ◌∙◌, arith, take_all, rules}
 use Rattle.std.proofs.lemmas.Int.{to_z-of_z}
-use Rattle.text.specs.Lines.{content}
 use Rattle.text.proofs.Cuts.{added}
 use Rattle.kind_texts.specs.Margin.{sign, tenths_text}
 use Rattle.kind_texts.specs.Pieces.{length_tenths}

@@ -1,7 +1,7 @@
-use Rattle.std.proofs.Common.{◌≡◌, cond, List, [], ◌++◌, take, codes, decimal, sym, refl, ap, ◌∙◌, arith, take_all, rules, eq-eqb, ne_eqb}
+use Rattle.std.proofs.Common.{◌≡◌, [], ◌++◌, take, codes, decimal, refl, ap, ◌∙◌, arith, take_all}
 use Rattle.text.specs.Lines.{content}
 use Rattle.text.proofs.Cuts.{added}
-use Rattle.kind_texts.specs.Zones.{counted_text, lowest_text}
+use Rattle.kind_texts.specs.Zones.{counted_text}
 use Rattle.kind_texts.specs.Pieces.{length_counted, lowest_none, lowest_some}
 use Rattle.kind_texts.proofs.zones.spelled.Goals as goal
 

@@ -1,16 +1,14 @@
 -- Each way through the functions, by what it comes to.
-use Rattle.std.proofs.Common.{◌≡◌, ℕ, ◌+◌, ◌-◌, List, [], ◌∷◌, length, sym, refl, ap, ◌∙◌, ap₂, arith}
+use Rattle.std.proofs.Common.{◌≡◌, ◌-◌, ◌∷◌, length, sym, refl, ap, ◌∙◌, ap₂, arith}
 use Rattle.std.proofs.lemmas.Result.{err_from_is_err_and}
-use Rattle.grammar.specs.Grammar.{Tree, one, two, rule, takes}
-use Rattle.grammar.specs.Machine.{Item, token, bad, Context, inside, first, second, under, depth, want, had, full, refused, runs, unit_done}
-use Rattle.grammar.specs.Limits.{max_depth}
-use Rattle.grammar.specs.declared.Token.TheVariants.{Word as word}
+use Rattle.grammar.specs.Grammar.{Tree, one, two, takes}
+use Rattle.grammar.specs.Machine.{token, inside, first, second, under, want, had, refused, runs, unit_done}
 use Rattle.words.specs.declared.Operands.TheVariants.{Two}
 use Rattle.grammar.specs.declared.TextFault.TheVariants.{EndsEarly}
 use Rattle.lexer.specs.Answers.{left, text_of}
 use Rattle.reader.specs.Reading.{behind}
-use Rattle.reader.proofs.Steps.{at_end, at_bad, first_depth, second_depth, first_done, second_done, under_done}
-use Rattle.reader.proofs.Ways.{next_none, next_some, had_run, want_second, paren_deep, paren_in, inside_level, close_missing, close_found, one_deep, one_many, one_in, under_level, two_wanted, close_wanted, two_in, two_many, alone_by_token, alone_by_word, rule_by_next, size_some, Pushed, Counted, grown_one, grown_two}
+use Rattle.reader.proofs.Steps.{at_end, at_bad, first_depth, second_depth, second_done, under_done}
+use Rattle.reader.proofs.Ways.{next_none, next_some, had_run, want_second, paren_deep, paren_in, inside_level, close_missing, close_found, one_deep, one_many, one_in, under_level, two_wanted, close_wanted, two_many, alone_by_token, alone_by_word, rule_by_next, size_some, Pushed, Counted, grown_one, grown_two}
 use Rattle.reader.proofs.parse.+in_parentheses_one_sided_rule_unit.Goals as goal
 
 pub in_parentheses-returns-in_err-below : goal.in_parentheses-returns-in_err-below

@@ -1,5 +1,5 @@
 -- One element more stands above the old top, and the slice is as long as it was.
-use Rattle.std.proofs.Common.{length, refl, ap, ◌∙◌, arith, length-set}
+use Rattle.std.proofs.Common.{refl, ◌∙◌, arith, length-set}
 use Rattle.std.proofs.lemmas.List.Edits.{paste_none}
 use Rattle.stack.proofs.Copies.{copy_more}
 use Rattle.stack.proofs.Stack.push_all.Goals as goal

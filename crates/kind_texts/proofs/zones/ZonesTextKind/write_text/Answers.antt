@@ -1,5 +1,4 @@
-use Rattle.std.proofs.Common.{◌≡◌, ◌^◌, ◌<◌, List, ap, ◌∙◌, subst, rules}
-use Rattle.text.specs.Writing.{Written}
+use Rattle.std.proofs.Common.{◌≡◌, ◌^◌, ◌<◌, ◌∙◌, rules}
 use Rattle.kinds.specs.Zones.{zones_means}
 use Rattle.kind_texts.specs.Zones.{zone_text}
 use Rattle.kind_texts.proofs.Counts.{counts_text}

@@ -1,4 +1,4 @@
-use Rattle.std.proofs.Common.{◌^◌, ◌<◌, sym, arith, rules}
+use Rattle.std.proofs.Common.{sym, arith, rules}
 use Rattle.text.proofs.Spelling.{decimal_front, spell_more, spell_room}
 use Rattle.text.proofs.decimal.Decimal.new.Goals as goal
 
