@@ -2,6 +2,7 @@ pub mod Places
 pub mod Orders
 pub mod Words
 pub mod Running
+pub mod Copying
 pub mod Backs
 pub mod Growing
 pub mod Pushes

@@ -59,12 +59,12 @@ module _ (A : Algebra) (h : List (Moment A.Val)) (n : ℕ) (P : Plain A n) (R : 
   val u = value A u h (suc n)
 
   -- the operands' values are at hand
-  abbrev Ready : (ℕ → A.Val) → A.Val → ℕ → Tree → Type 0
+  abbrev pub Ready : (ℕ → A.Val) → A.Val → ℕ → Tree → Type 0
   Ready at x l (leaf w) = Unit {0}
   Ready at x l (one w t) = x ≡ val t
   Ready at x l (two w t u) = (at l ≡ val t) × (x ≡ val u)
 
-  own_node : (u : Tree) (l a b : ℕ) (at : ℕ → A.Val) (x : A.Val) → Ready at x l u → Own A e r n p (own l a b u) (step_of u) a b (at (left_of (own l a b u))) x (val u) (λ q. held A h q u)
+  pub own_node : (u : Tree) (l a b : ℕ) (at : ℕ → A.Val) (x : A.Val) → Ready at x l u → Own A e r n p (own l a b u) (step_of u) a b (at (left_of (own l a b u))) x (val u) (λ q. held A h q u)
   unfolding value
   own_node (leaf w) l a b at x q = none_does A e r n p (does A e r (events h) n P R w.operator) w.number a b _ _ _
   own_node (one w t) l a b at x q = rw q (one_does A e r n p (does A e r (events h) n P R w.operator) a b _ (value A t h))
@@ -149,10 +149,10 @@ module _ (A : Algebra) (h : List (Moment A.Val)) (n : ℕ) (P : Plain A n) (R : 
       let s = own l a b u in
       ap (λ x. put (cell_of s) (kept s (get_or vs (i - 1) A.false) x) cs) v ∙ puts A o.kin cs _ (held A h (suc n)) u o.keeps
 
-  values_front : (vs : List A.Val) (k : ℕ) (us ws : List Tree) → At A.false vs k (map val (us ++ ws)) → At A.false vs k (map val us)
+  pub values_front : (vs : List A.Val) (k : ℕ) (us ws : List Tree) → At A.false vs k (map val (us ++ ws)) → At A.false vs k (map val us)
   values_front vs k us ws g = at_front A.false vs _ _ k (subst (At A.false vs k) (map-append val us ws) g)
 
-  values_rest : (vs : List A.Val) (k : ℕ) (t : Tree) (ws : List Tree) → At A.false vs k (map val (subtrees t ++ ws)) → At A.false vs (k + size t) (map val ws)
+  pub values_rest : (vs : List A.Val) (k : ℕ) (t : Tree) (ws : List Tree) → At A.false vs k (map val (subtrees t ++ ws)) → At A.false vs (k + size t) (map val ws)
   values_rest vs k t ws g = at_moved A.false vs _ (ap (λ i. k + i) (length-map (subtrees t) val ∙ subtrees_length t)) (at_rest A.false vs _ _ k (subst (At A.false vs k) (map-append val (subtrees t) ws) g))
 
   -- the steps of a tree, and then others

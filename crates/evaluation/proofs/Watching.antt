@@ -13,13 +13,14 @@ use Rattle.history.proofs.Alike.{prior_le}
 use Rattle.history.proofs.Prefix.{event_newest, reading_newest}
 use Rattle.history.proofs.Looking.{recurrences}
 use Rattle.evaluation.specs.Plan.{Cell, if_plain, if_routine, subtrees, plain_trees, routine_trees, rule_plan}
-use Rattle.evaluation.specs.Steps.{Cells, Memory, settled, evaluate, new_cells}
+use Rattle.evaluation.specs.Steps.{Cells, Memory, settled, evaluate, new_cells, picked_cells}
 use Rattle.evaluation.specs.Cells.{held, cells_at, back, memory_at}
-use Rattle.evaluation.specs.Theorems.{Fresh, Evaluates, values_at}
+use Rattle.evaluation.specs.Theorems.{Fresh, Evaluated, Evaluates, Copies, values_at, new_cells_at}
 use Rattle.evaluation.proofs.Places.{At, at_own, writes, writes_all}
 use Rattle.evaluation.proofs.Orders.{last_value}
 use Rattle.evaluation.proofs.Words.{Kin, no_cells, plains, routines, IfCell}
 use Rattle.evaluation.proofs.Running.{e, r, Holds, evaluates, renewed, freshly}
+use Rattle.evaluation.proofs.Copying.{copied}
 use Rattle.evaluation.proofs.Growing.{map_same, held_prefix, prior_back}
 use Rattle.evaluation.proofs.Pushes.{remembered}
 
@@ -35,6 +36,17 @@ pick_routine : (A : Algebra) (a b : ℕ) (c k : Cell) → Kin a b c k → (f : T
 pick_routine A a b c k no_cells f v u q = refl
 pick_routine A a b c k plains f v u q = refl
 pick_routine A a b c k routines f v u q = ap {B = List A.Val} (λ x. x ∷ []) q
+
+-- the same of the places of values
+place_plain : (A : Algebra) (a b : ℕ) (c k : Cell) → Kin a b c k → (f : Tree → A.Val) (g : ℕ → A.Val) (i : ℕ) (u : Tree) → IfCell c (g i ≡ f u) → map g (if_plain c i) ≡ map f (if_plain k u)
+place_plain A a b c k no_cells f g i u q = refl
+place_plain A a b c k plains f g i u q = ap {B = List A.Val} (λ x. x ∷ []) q
+place_plain A a b c k routines f g i u q = refl
+
+place_routine : (A : Algebra) (a b : ℕ) (c k : Cell) → Kin a b c k → (f : Tree → A.Val) (g : ℕ → A.Val) (i : ℕ) (u : Tree) → IfCell c (g i ≡ f u) → map g (if_routine c i) ≡ map f (if_routine k u)
+place_routine A a b c k no_cells f g i u q = refl
+place_routine A a b c k plains f g i u q = refl
+place_routine A a b c k routines f g i u q = ap {B = List A.Val} (λ x. x ∷ []) q
 
 pub fresh_first : (A : Algebra) → Laws A → Fresh A
 unfolding numbered events calls
@@ -87,3 +99,16 @@ evaluated A L t d h m b = record { nodes = nodes; rule = rule; cells = cells; me
 
     cells : new_cells A (values_at A t h m) 0 (rule_plan t) (cells_at A t h (back (events h))) ≡ cells_at A t h' (suc n)
     cells = ap₂ (λ vs c. new_cells A vs 0 (rule_plan t) c) nodes old ∙ (renewed A h' n P R t 0 0 0 cs vals (at_all A.false vals) ∙ (ap₂ {C = Cells A.Val} (λ x y. record { plain = x; routine = y }) (overwritten n (plain_trees t)) (overwritten p (routine_trees t)) ∙ ap (λ k. record { plain = map (held A h' k) (plain_trees t); routine = map (held A h' (suc n)) (routine_trees t) }) longer))
+
+pub copies : (A : Algebra) → Laws A → Copies A
+copies A L t d h m b =
+    let h' = h ++ m ∷ [] in
+    let n = length h in
+    let P : Plain A n = (recurrences A L n).0 in
+    let R : Along A (events h') n (prior (events h') (suc n)) = (recurrences A L n).1 d (events h') b in
+    let at : (x : Evaluated A t h m) → picked_cells A (values_at A t h m) (rule_plan t) ≡ new_cells_at A t h m = λ x.
+    let all : At A.false (values_at A t h m) 0 (map (λ u. value A u h' (suc n)) (subtrees t)) = subst (λ l. At A.false l 0 (map (λ u. value A u h' (suc n)) (subtrees t))) (sym x.nodes) (at_all A.false (map (λ u. value A u h' (suc n)) (subtrees t))) in
+    let longer : suc n ≡ length h' = omega (arith, length-append h (m ∷ [])) in
+    let cells : picked_cells A (values_at A t h m) (rule_plan t) ≡ cells_at A t h' (suc n) = ap₂ {C = Cells A.Val} (λ x y. record { plain = x; routine = y }) (copied A h' n P R if_plain if_plain (place_plain A) (values_at A t h m) t 0 0 0 all) (copied A h' n P R if_routine if_routine (place_routine A) (values_at A t h m) t 0 0 0 all) ∙ ap (λ k. record { plain = map (held A h' k) (plain_trees t); routine = map (held A h' (suc n)) (routine_trees t) }) longer in
+    cells ∙ sym x.cells in
+    at (evaluated A L t d h m b)

@@ -5,9 +5,12 @@
 --   evaluate              the values of the steps, one after another
 --   keeps_operand s        whether the step's cell keeps its operand's value; it keeps the step's own value otherwise
 --   new_cells              the cells after the event, from the values of all the steps
+--   sources pick i ss     the numbers of the steps whose values the cells keep
+--   picked d vs ks        the values at these numbers
+--   picked_cells           the cells after the event, as copies of the values of the steps
 --   fresh_cells            the cells before the first event
 --   Memory V, settled     the cells with the stack of those that open routines were called with, and both after an event
-use Rattle.std.specs.Prelude.{ℕ, suc, ◌-◌, Bool, true, false, cond, List, [], ◌∷◌, ◌++◌, length, take, ◌==◌, slice_index_or, slice_set}
+use Rattle.std.specs.Prelude.{ℕ, suc, ◌-◌, Bool, true, false, cond, List, [], ◌∷◌, ◌++◌, map, length, get_or, take, ◌==◌, slice_index_or, slice_set}
 use Rattle.kinds.specs.Algebra.{Algebra}
 use Rattle.reels.specs.declared.Event.{Event}
 use Rattle.reels.specs.declared.EventKind.{EventKind}
@@ -94,6 +97,18 @@ put none v cs = cs
 put (plain c) v cs = record { plain = slice_set cs.plain c v; routine = cs.routine }
 put (routine c) v cs = record { plain = cs.plain; routine = slice_set cs.routine c v }
 
+-- the number of the step whose value the cell of step number i keeps
+abbrev pub source : Step → ℕ → ℕ
+source s i = cond (keeps_operand s) (i - 1) i
+
+-- for the cells that `pick` picks, in order, of the steps ss, the first of which has the number i
+unfoldable pub sources : (Cell → ℕ → List ℕ) → ℕ → List Step → List ℕ
+sources pick i [] = []
+sources pick i (s ∷ ss) = pick (cell_of s) (source s i) ++ sources pick (suc i) ss
+
+abbrev pub picked : {V : Type 0} → V → List V → List ℕ → List V
+picked d vs ks = map (λ k. get_or vs k d) ks
+
 module _ (A : Algebra) where
   abbrev pub operand : List A.Val → A.Val
   operand vs = slice_index_or vs (length vs - 1) A.false
@@ -141,6 +156,10 @@ module _ (A : Algebra) where
   unfoldable pub new_cells : List A.Val → ℕ → List Step → Cells A.Val → Cells A.Val
   new_cells vs i [] cs = cs
   new_cells vs i (s ∷ ss) cs = new_cells vs (suc i) ss (put (cell_of s) (kept s (slice_index_or vs (i - 1) A.false) (slice_index_or vs i A.false)) cs)
+
+  -- after the steps ss, which have the values vs
+  abbrev pub picked_cells : List A.Val → List Step → Cells A.Val
+  picked_cells vs ss = record { plain = picked A.false vs (sources if_plain 0 ss); routine = picked A.false vs (sources if_routine 0 ss) }
 
   -- what a step's cell holds before the first event
   abbrev pub fresh : Step → A.Val

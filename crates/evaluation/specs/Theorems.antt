@@ -4,6 +4,7 @@
 --   Fresh A         before the first event the cells are fresh and no routine is open
 --   Evaluates A     at an event the steps have the values of the rule's nodes by looking back, the last that of the rule;
 --                   the new cells are those at the event, and the memory is that after it
+--   Copies A        at an event the new cells are copies of the values of the steps
 use Rattle.std.specs.Prelude.{◌≡◌, ℕ, suc, ◌-◌, List, [], ◌∷◌, ◌++◌, map, length, slice_index_or}
 use Rattle.grammar.specs.Grammar.{Tree}
 use Rattle.grammar.specs.Nodes.{size}
@@ -15,7 +16,7 @@ use Rattle.history.specs.Moments.{Moment, events, prior}
 use Rattle.history.specs.Calls.{routine_at}
 use Rattle.history.specs.Value.{value}
 use Rattle.evaluation.specs.Plan.{subtrees, rule_plan}
-use Rattle.evaluation.specs.Steps.{Cells, settled, evaluate, new_cells, fresh_cells}
+use Rattle.evaluation.specs.Steps.{Cells, settled, evaluate, new_cells, picked_cells, fresh_cells}
 use Rattle.evaluation.specs.Cells.{cells_at, back, begun, memory_at}
 
 abbrev pub LooksBack : Type 0
@@ -44,3 +45,6 @@ module _ (A : Algebra) where
 
 abbrev pub Evaluates : Algebra → Type 0
 Evaluates A = (t : Tree) (d : ℕ) (h : List (Moment A.Val)) (m : Moment A.Val) → Begins d (events (h ++ m ∷ [])) → Evaluated A t h m
+
+abbrev pub Copies : Algebra → Type 0
+Copies A = (t : Tree) (d : ℕ) (h : List (Moment A.Val)) (m : Moment A.Val) → Begins d (events (h ++ m ∷ [])) → picked_cells A (values_at A t h m) (rule_plan t) ≡ new_cells_at A t h m

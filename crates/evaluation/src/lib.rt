@@ -1,7 +1,7 @@
 // A rule as a watcher runs it, and why that is looking back: the steps of a rule, the values that they keep, and theorems.
 #![tactic(auto)]
 
-ghost use Rattle.evaluation.specs.Theorems.{LooksBack, BegunOpened, Fresh, Evaluates};
+ghost use Rattle.evaluation.specs.Theorems.{LooksBack, BegunOpened, Fresh, Evaluates, Copies};
 
 use kinds::TruthKind;
 use reels::EventKind;
@@ -44,6 +44,7 @@ pub fn returning_stands() -> u8
 pub fn evaluation_stands<K: TruthKind>() -> u8
     ensures fresh { Fresh K.TruthKind.algebra }
     ensures evaluates { Evaluates K.TruthKind.algebra }
+    ensures copies { Copies K.TruthKind.algebra }
 {
     0
 }

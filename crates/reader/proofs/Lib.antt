@@ -3,3 +3,4 @@ pub mod Ways
 pub mod Whole
 pub mod Shut
 pub mod Trees
+pub mod Listing

@@ -8,6 +8,7 @@ use Rattle.grammar.specs.Lexemes.{Placed, means_open, means_close, means_word, S
 use Rattle.grammar.specs.Nodes.{size}
 use Rattle.grammar.specs.declared.Token.{Token}
 use Rattle.grammar.specs.declared.Token.TheVariants.{Open, Close, Word as word}
+use Rattle.reader.proofs.Listing.{AllListed, all_listed, listed_front, listed_back}
 
 -- the tree can be laid out as this part inside d open parentheses and unfinished one-sided words
 abbrev pub Proper : ℕ → Part → Tree → Type 0
@@ -32,31 +33,6 @@ pub as_rule : (t : Tree) (d : ℕ) → Proper d unit t → Proper d rule t
 as_rule (leaf w) d P = P
 as_rule (one w t) d P = P
 as_rule (two w l r) d P = (P.0, P.1, shallower l d (suc d) unit (omega arith) P.2, shallower r d (suc d) unit (omega arith) P.3)
-
--- each word among the tokens is listed
-abbrev AllListed : List Token → Type 0
-AllListed [] = Unit {0}
-AllListed (Open ∷ ts) = AllListed ts
-AllListed (Close ∷ ts) = AllListed ts
-AllListed (word w ∷ ts) = Listed w × AllListed ts
-
-all_listed : {xs : List Placed} {ts : List Token} → Spells xs ts → AllListed ts
-all_listed none = tt
-all_listed (more means_open s) = all_listed s
-all_listed (more means_close s) = all_listed s
-all_listed (more (means_word n) s) = (n.listed, all_listed s)
-
-listed_front : (ts us : List Token) → AllListed (ts ++ us) → AllListed ts
-listed_front [] us h = tt
-listed_front (Open ∷ ts) us h = listed_front ts us h
-listed_front (Close ∷ ts) us h = listed_front ts us h
-listed_front (word w ∷ ts) us h = (h.0, listed_front ts us h.1)
-
-listed_back : (ts us : List Token) → AllListed (ts ++ us) → AllListed us
-listed_back [] us h = h
-listed_back (Open ∷ ts) us h = listed_back ts us h
-listed_back (Close ∷ ts) us h = listed_back ts us h
-listed_back (word w ∷ ts) us h = listed_back ts us h.1
 
 reads_proper : {d : ℕ} {p : Part} {ts : List Token} {t : Tree} → Reads in_depth d p ts t → AllListed ts → Proper d p t
 reads_proper (a_leaf e) h = (h.0, e)

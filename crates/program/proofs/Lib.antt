@@ -1,0 +1,5 @@
+pub mod Sources
+pub mod Drafting
+pub mod Plans
+pub mod Facts
+pub mod Predicates

@@ -1,0 +1,22 @@
+// Whole runs of a watcher: that its answers are those of looking back, and the same in another kind. Definitions and theorems,
+// no code.
+#![tactic(auto)]
+
+ghost use Rattle.runs.specs.Promise.{LooksBack};
+ghost use Rattle.runs.specs.Twins.{CarriesOver};
+
+use kinds::TruthKind;
+
+// A theorem about every run of a watcher of any kind.
+pub fn runs_stand<K: TruthKind>() -> u8
+    ensures looks_back { LooksBack K.TruthKind.algebra K.TruthKind.means }
+{
+    0
+}
+
+// A theorem about two runs whose readings are carried from one kind into another.
+pub fn twins_stand<K: TruthKind, L: TruthKind>() -> u8
+    ensures carries_over { CarriesOver K.TruthKind.algebra L.TruthKind.algebra K.TruthKind.means L.TruthKind.means }
+{
+    0
+}
