@@ -183,16 +183,16 @@ module _ (A : Algebra) (h : List (Moment A.Val)) (n : ℕ) (P : Plain A n) (R : 
       then t k a b (plan k' a' b' t' ++ s ∷ []) cs vs ∙ (ap (new_cells A vs k' (plan k' a' b' t' ++ s ∷ [])) (renewed t k a b cs vs front) ∙ (both ∙ written_both cs a b (plain_trees t) _ (routine_trees t) _))
 
   -- the fresh cells that are picked, by steps and by trees
-  module _ (pick : Cell → A.Val → List A.Val) (pickTree : Cell → Tree → List Tree) (picks : (a b : ℕ) (c k : Cell) → Kin a b c k → (f : Tree → A.Val) (v : A.Val) (u : Tree) → IfCell c (v ≡ f u) → pick c v ≡ map f (pickTree k u)) where
-    own_fresh : (u : Tree) (l a b : ℕ) (at : ℕ → A.Val) (x : A.Val) → Ready at x l u → fresh_of A pick (own l a b u ∷ []) ≡ map (held A h 0) (pickTree (cell_of (step_of u)) u)
+  module _ (pick : Cell → A.Val → List A.Val) (pick_tree : Cell → Tree → List Tree) (picks : (a b : ℕ) (c k : Cell) → Kin a b c k → (f : Tree → A.Val) (v : A.Val) (u : Tree) → IfCell c (v ≡ f u) → pick c v ≡ map f (pick_tree k u)) where
+    own_fresh : (u : Tree) (l a b : ℕ) (at : ℕ → A.Val) (x : A.Val) → Ready at x l u → fresh_of A pick (own l a b u ∷ []) ≡ map (held A h 0) (pick_tree (cell_of (step_of u)) u)
     unfolding fresh_of
     own_fresh u l a b at x q = let o = own_node u l a b at x q in append-nil _ ∙ picks a b _ _ o.kin (held A h 0) _ u o.start
 
-    pub freshly : (t : Tree) (k a b : ℕ) → fresh_of A pick (plan k a b t) ≡ map (held A h 0) (in_order (λ u. pickTree (cell_of (step_of u)) u) t)
+    pub freshly : (t : Tree) (k a b : ℕ) → fresh_of A pick (plan k a b t) ≡ map (held A h 0) (in_order (λ u. pick_tree (cell_of (step_of u)) u) t)
     unfolding plan in_order
     freshly (leaf w) k a b = own_fresh (leaf w) 0 a b (λ i. A.false) A.false tt
-    freshly (one w t) k a b = fresh_append A pick (plan k a b t) _ ∙ (ap₂ ◌++◌ (freshly t k a b) (own_fresh (one w t) 0 (a + plain_cells t) (b + routine_cells t) (λ i. A.false) (val t) refl) ∙ sym (map-append (held A h 0) (in_order (λ u. pickTree (cell_of (step_of u)) u) t) _))
+    freshly (one w t) k a b = fresh_append A pick (plan k a b t) _ ∙ (ap₂ ◌++◌ (freshly t k a b) (own_fresh (one w t) 0 (a + plain_cells t) (b + routine_cells t) (λ i. A.false) (val t) refl) ∙ sym (map-append (held A h 0) (in_order (λ u. pick_tree (cell_of (step_of u)) u) t) _))
     freshly (two w t t') k a b =
-        let own-trees : Tree → List Tree = λ u. pickTree (cell_of (step_of u)) u in
-        let right = fresh_append A pick (plan (k + size t) (a + plain_cells t) (b + routine_cells t) t') _ ∙ (ap₂ ◌++◌ (freshly t' (k + size t) (a + plain_cells t) (b + routine_cells t)) (own_fresh (two w t t') (k + size t - 1) (a + plain_cells t + plain_cells t') (b + routine_cells t + routine_cells t') (λ i. val t) (val t') (refl, refl)) ∙ sym (map-append (held A h 0) (in_order own-trees t') (own-trees (two w t t')))) in
-        fresh_append A pick (plan k a b t) _ ∙ (ap₂ ◌++◌ (freshly t k a b) right ∙ sym (map-append (held A h 0) (in_order own-trees t) (in_order own-trees t' ++ own-trees (two w t t'))))
+        let own_trees : Tree → List Tree = λ u. pick_tree (cell_of (step_of u)) u in
+        let right = fresh_append A pick (plan (k + size t) (a + plain_cells t) (b + routine_cells t) t') _ ∙ (ap₂ ◌++◌ (freshly t' (k + size t) (a + plain_cells t) (b + routine_cells t)) (own_fresh (two w t t') (k + size t - 1) (a + plain_cells t + plain_cells t') (b + routine_cells t + routine_cells t') (λ i. val t) (val t') (refl, refl)) ∙ sym (map-append (held A h 0) (in_order own_trees t') (own_trees (two w t t')))) in
+        fresh_append A pick (plan k a b t) _ ∙ (ap₂ ◌++◌ (freshly t k a b) right ∙ sym (map-append (held A h 0) (in_order own_trees t) (in_order own_trees t' ++ own_trees (two w t t'))))

@@ -1,13 +1,13 @@
 -- What the cells hold after a history, by looking back.
---   only_operand t        the right or only operand of the tree's word
---   held A h q t         what the cell of the tree's word holds at event q: its operand's value there, or its own
---   plain_at A t h        the plain cells of the rule with the tree t, those of its words at the last event
---   routine_at A t h q    its routine cells at event q
---   cells_at A t h q      both
---   innermost, back es   where the routine words of the next event look back to: after an end the call that has to return, else the last event
---   begun es             the calls whose routines are open, the innermost first
---   stack A t h           the routine cells at those calls, the outermost first
---   memory_at A t h       the cells and the stack
+--   only_operand t      the right or only operand of the tree's word
+--   held A h q t        what the cell of the tree's word holds at event q: its operand's value there, or its own
+--   plain_at A t h      the plain cells of the rule with the tree t, those of its words at the last event
+--   routine_at A t h q  its routine cells at event q
+--   cells_at A t h q    both
+--   innermost, back es  where the routine words of the next event look back to: after an end the call that has to return, else the last event
+--   begun es            the calls whose routines are open, the innermost first
+--   stack A t h         the routine cells at those calls, the outermost first
+--   memory_at A t h     the cells and the stack
 use Rattle.std.specs.Prelude.{ℕ, Bool, cond, ◌||◌, List, [], ◌∷◌, map, reverse, length}
 use Rattle.grammar.specs.Grammar.{Tree, leaf, one, two}
 use Rattle.kinds.specs.Algebra.{Algebra}

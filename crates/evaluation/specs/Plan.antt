@@ -1,12 +1,12 @@
 -- The steps of a rule, one for each node: left operand, right operand, node.
---   Cell                 where a step keeps a value: nowhere, in a plain cell or in a routine cell
---   cell_of s             the step's cell
---   Form, form o         which step a word becomes
---   own l a b t          the step of the tree's last node: l is its left operand's number, a and b are its cells
---   subtrees t           the trees of its nodes; plain_trees t, routine_trees t those that have a cell
---   plain_cells t, routine_cells t      how many cells it has
---   plan n a b t         the steps of a tree whose first node has the number n and whose first cells are a and b
---   rule_plan t           the steps of a rule
+--   Cell          where a step keeps a value: nowhere, in a plain cell or in a routine cell
+--   cell_of s     the step's cell
+--   Form, form o  which step a word becomes
+--   own l a b t   the step of the tree's last node: l is its left operand's number, a and b are its cells
+--   subtrees t    the trees of its nodes; plain_trees t, routine_trees t those that have a cell
+--   plain_cells t, routine_cells t  how many cells it has
+--   plan n a b t  the steps of a tree whose first node has the number n and whose first cells are a and b
+--   rule_plan t   the steps of a rule
 use Rattle.std.specs.Prelude.{ℕ, ◌+◌, ◌-◌, List, [], ◌∷◌, ◌++◌, length}
 use Rattle.words.specs.declared.Operator.{Operator}
 use Rattle.words.specs.declared.Operator.TheVariants.{And, Or, Implies, Since, Rsince, Not, Before, Rbefore, Once, Ronce, Always, Ralways, Rise, Fall, True, False, Step, Call, Begin, End, Return, Predicate, Routine}

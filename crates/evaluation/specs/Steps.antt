@@ -3,12 +3,12 @@
 --   operand, left         the values of a step's operands among the values so far
 --   result A e r s y x c  the step's value at the event e with the reading r, where its operands have the values y and x and its cell c
 --   evaluate              the values of the steps, one after another
---   keeps_operand s        whether the step's cell keeps its operand's value; it keeps the step's own value otherwise
---   new_cells              the cells after the event, from the values of all the steps
+--   keeps_operand s       whether the step's cell keeps its operand's value; it keeps the step's own value otherwise
+--   new_cells             the cells after the event, from the values of all the steps
 --   sources pick i ss     the numbers of the steps whose values the cells keep
 --   picked d vs ks        the values at these numbers
---   picked_cells           the cells after the event, as copies of the values of the steps
---   fresh_cells            the cells before the first event
+--   picked_cells          the cells after the event, as copies of the values of the steps
+--   fresh_cells           the cells before the first event
 --   Memory V, settled     the cells with the stack of those that open routines were called with, and both after an event
 use Rattle.std.specs.Prelude.{ℕ, suc, ◌-◌, Bool, true, false, cond, List, [], ◌∷◌, ◌++◌, map, length, get_or, take, ◌==◌, slice_index_or, slice_set}
 use Rattle.kinds.specs.Algebra.{Algebra}

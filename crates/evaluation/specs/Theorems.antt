@@ -1,10 +1,10 @@
 -- What holds of a watcher's cells and looking back, in every kind.
---   LooksBack      where routine words look back to from the event that comes next
---   BegunOpened    the calls whose routines are open have the numbers of the nest's open routines
---   Fresh A         before the first event the cells are fresh and no routine is open
---   Evaluates A     at an event the steps have the values of the rule's nodes by looking back, the last that of the rule;
---                   the new cells are those at the event, and the memory is that after it
---   Copies A        at an event the new cells are copies of the values of the steps
+--   LooksBack    where routine words look back to from the event that comes next
+--   BegunOpened  the calls whose routines are open have the numbers of the nest's open routines
+--   Fresh A      before the first event the cells are fresh and no routine is open
+--   Evaluates A  at an event the steps have the values of the rule's nodes by looking back, the last that of the rule;
+--                the new cells are those at the event, and the memory is that after it
+--   Copies A     at an event the new cells are copies of the values of the steps
 use Rattle.std.specs.Prelude.{◌≡◌, ℕ, suc, ◌-◌, List, [], ◌∷◌, ◌++◌, map, length, slice_index_or}
 use Rattle.grammar.specs.Grammar.{Tree}
 use Rattle.grammar.specs.Nodes.{size}

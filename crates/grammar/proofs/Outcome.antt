@@ -197,9 +197,9 @@ module _ (n : ℕ) where
   takes_all {S = S} none stays xs k f = ap (λ j. runs n S j (items_of xs)) (omega arith)
   takes_all {T = T} (more {x = x} {t = a} {xs = ys} {ts = ts} m s) (takes_on {S = S} e o g) xs k f =
       let c : counted a k + words ts ≡ k + words (a ∷ ts) = counted_words a k ts in
-      let all-few : counted a k + words ts ≤ max_words = omega arith in
+      let all_few : counted a k + words ts ≤ max_words = omega arith in
       let few : counted a k ≤ max_words = omega arith in
-      takes_token S k x (ys ++ xs) a m e o few ∙ takes_all s g xs (counted a k) all-few ∙ ap (λ j. runs n T j (items_of xs)) c
+      takes_token S k x (ys ++ xs) a m e o few ∙ takes_all s g xs (counted a k) all_few ∙ ap (λ j. runs n T j (items_of xs)) c
 
 -- a text that is not too long, up to the pieces xs
 up_to : (text : List ℕ) {before : List Placed} (xs : List Placed) {ts : List Token} {S : State} → length text ≤ max_text → lexemes 0 text ≡ before ++ xs → Spells before ts → Goes in_depth start ts S → words ts ≤ max_words → outcome text ≡ runs (length text) S (words ts) (items_of xs)

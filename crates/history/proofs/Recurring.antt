@@ -1,6 +1,6 @@
 -- What an event adds to looking back: the events in view from i are i itself and those in view from p.
---   View sees n p      this, for i the event after n
---   only, since_in      what is in view, and `since` over it
+--   View sees n p   this, for i the event after n
+--   only, since_in  what is in view, and `since` over it
 use Rattle.std.proofs.Common.{◌≡◌, ℕ, suc, ◌<◌, ◌≤◌, Bool, true, false, cond, ltb, sym, refl, ap, ◌∙◌, ap₂, arith, le-ltb, lt-ltb}
 use Rattle.kinds.specs.Algebra.{Algebra, Laws}
 use Rattle.history.specs.Moments.{over}

@@ -1,6 +1,6 @@
 -- The calls that are still to return, as a watcher keeps them on a stack: a step between code and promise.
 --   calls es i       the calls among the events 1 to i that have not returned, the innermost first
---   routine_at es i   the routine number of event i
+--   routine_at es i  the routine number of event i
 --   unreturned s     the numbers of the routines that, by the nest s, were called and have not returned
 use Rattle.std.specs.Prelude.{ℕ, zero, suc, List, [], ◌∷◌}
 use Rattle.reels.specs.declared.Event.{Event}

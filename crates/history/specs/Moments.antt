@@ -1,17 +1,17 @@
 -- What a rule can look back on: events numbered from 1, which call a return belongs to, and what is seen from an event.
---   Moment V           an event with the reading that came with it, the values of the predicates p0, p1, ..
---   events h           the events of a history, which is a list of moments, the oldest first; readings h its readings
---   event_at es i       event number i; reading_at h i the reading that came with it
---   is k e             whether the event has the kind k
---   tally k es i       how many of the events 1 to i have the kind k
---   open_at es i        how many routines are open at event i: the begins minus the ends among the events 1 to i
---   latest P i         the latest of the events 1 to i with P, or 0
---   over op none F i   F over the events 1 to i, the newest first, joined by op; none where there is no event
---   some P i           whether one of the events 1 to i has P
---   call_of es i        the call that a return at i belongs to, or 0
---   hides es r j       whether r is a return and the event j lies between its call and r
---   seen es j i        whether the event j is seen from i
---   prior es i         where a routine word looks back to from i: the call if i is a return, else the event before; 0 where there is none
+--   Moment V          an event with the reading that came with it, the values of the predicates p0, p1, ..
+--   events h          the events of a history, which is a list of moments, the oldest first; readings h its readings
+--   event_at es i     event number i; reading_at h i the reading that came with it
+--   is k e            whether the event has the kind k
+--   tally k es i      how many of the events 1 to i have the kind k
+--   open_at es i      how many routines are open at event i: the begins minus the ends among the events 1 to i
+--   latest P i        the latest of the events 1 to i with P, or 0
+--   over op none F i  F over the events 1 to i, the newest first, joined by op; none where there is no event
+--   some P i          whether one of the events 1 to i has P
+--   call_of es i      the call that a return at i belongs to, or 0
+--   hides es r j      whether r is a return and the event j lies between its call and r
+--   seen es j i       whether the event j is seen from i
+--   prior es i        where a routine word looks back to from i: the call if i is a return, else the event before; 0 where there is none
 use Rattle.std.specs.Prelude.{ℕ, zero, suc, ◌-◌, Bool, true, false, cond, not, ◌&&◌, ◌||◌, List, [], map, ◌==◌, nat_le, nat_lt, slice_index_or}
 use Rattle.reels.specs.declared.Event.{Event}
 use Rattle.reels.specs.declared.EventKind.{EventKind}

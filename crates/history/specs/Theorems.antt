@@ -1,13 +1,13 @@
 -- What holds of looking back, in every kind.
---   Prefix A          a value depends on the moments up to its event only
---   Kept A B R        the five operations keep the relation R between two kinds' values
---   Carried A B       a function that keeps the five operations carries every rule's values
---   Plain, Along      what the words that look back make of their operands at an event and their own value at an earlier one
---   Recurrences A     `once`, `always` and `since` follow from the event before, the routine words from the event that they look back to
---   SeenFrom         what is seen from an event: itself, and what is seen from the event that routine words look back to
---   OpenCounts       no more routines have ended than begun, so `open_at` never takes more away than there is
---   Matching          a return belongs to the innermost call that has not returned, and this has its routine number
---   NestMatching     the nest's routine numbers are those of the calls that have not returned, and these are at most the depth
+--   Prefix A       a value depends on the moments up to its event only
+--   Kept A B R     the five operations keep the relation R between two kinds' values
+--   Carried A B    a function that keeps the five operations carries every rule's values
+--   Plain, Along   what the words that look back make of their operands at an event and their own value at an earlier one
+--   Recurrences A  `once`, `always` and `since` follow from the event before, the routine words from the event that they look back to
+--   SeenFrom       what is seen from an event: itself, and what is seen from the event that routine words look back to
+--   OpenCounts     no more routines have ended than begun, so `open_at` never takes more away than there is
+--   Matching       a return belongs to the innermost call that has not returned, and this has its routine number
+--   NestMatching   the nest's routine numbers are those of the calls that have not returned, and these are at most the depth
 use Rattle.std.specs.Prelude.{◌≡◌, ℕ, suc, ◌≤◌, true, List, ◌∷◌, ◌++◌, map, length}
 use Rattle.grammar.specs.Grammar.{Tree}
 use Rattle.kinds.specs.Algebra.{Algebra}

@@ -1,11 +1,11 @@
 -- The value of a rule at an event of a history, by looking back.
---   or_to A F i             the or of F over the events 1 to i; and_to A F i the and
---   and_between A F j i     the and of F over the events after j up to i
---   earlier A F p          F at the event p, false where there is none
---   before, once, always, since        what the words of these names make of their operands' values
---   rbefore, ronce, ralways, rsince    the same along what is seen from an event
---   Sense V, sense A es o  what an operator makes of its operands, in a history with the events es
---   value A t h i          the value of the rule with the tree t at event i of the history h
+--   or_to A F i                      the or of F over the events 1 to i; and_to A F i the and
+--   and_between A F j i              the and of F over the events after j up to i
+--   earlier A F p                    F at the event p, false where there is none
+--   before, once, always, since      what the words of these names make of their operands' values
+--   rbefore, ronce, ralways, rsince  the same along what is seen from an event
+--   Sense V, sense A es o            what an operator makes of its operands, in a history with the events es
+--   value A t h i                    the value of the rule with the tree t at event i of the history h
 use Rattle.std.specs.Prelude.{ℕ, zero, suc, Bool, cond, List, ◌==◌, nat_lt, slice_index_or}
 use Rattle.words.specs.declared.Operator.{Operator}
 use Rattle.words.specs.declared.Operator.TheVariants.{And, Or, Implies, Since, Rsince, Not, Before, Rbefore, Once, Ronce, Always, Ralways, Rise, Fall, True, False, Step, Call, Begin, End, Return, Predicate, Routine}

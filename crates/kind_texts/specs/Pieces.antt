@@ -1,4 +1,4 @@
--- Texts by their pieces, and how long they are.
+-- Texts by their pieces and how long they are, as the impls of texts have to show.
 use Rattle.std.specs.Prelude.{◌≡◌, ℕ, zero, suc, ◌+◌, ◌/◌, ◌%◌, ◌^◌, ◌<◌, ◌≤◌, Bool, length, ℤ, pos, negsuc, neg_ℤ, ◌≤ℤ◌, codes, decimal, count_by, ◌==◌, ◌≢◌, unsigned_abs, refl}
 use Rattle.std.proofs.Common.{sym, ap, arith, length-append}
 use Rattle.std.proofs.lemmas.Fmt.{length-decimal-le}

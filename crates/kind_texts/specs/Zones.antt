@@ -1,9 +1,9 @@
 -- How a zone word is written: how many zones hold, and the lowest that does not.
---   zones_from i k      k zones in order, from zone i on
---   every              the 64 zones in order
---   lowest_text m      the lowest zone that does not hold, where as many as m hold before it: none where all do
---   counted_text n m   the text where n zones hold, and m of them before the lowest that does not
---   zone_text v        the text of a value of the zone kind
+--   zones_from i k    k zones in order, from zone i on
+--   every             the 64 zones in order
+--   lowest_text m     the lowest zone that does not hold, where as many as m hold before it: none where all do
+--   counted_text n m  the text where n zones hold, and m of them before the lowest that does not
+--   zone_text v       the text of a value of the zone kind
 use Rattle.std.specs.Prelude.{ℕ, zero, suc, ◌+◌, ◌<◌, ◌≤◌, Bool, cond, List, [], ◌∷◌, ◌++◌, codes, decimal, count_by, ◌==◌}
 use Rattle.std.proofs.Common.{arith}
 use Rattle.std.specs.List.{prefix_len}

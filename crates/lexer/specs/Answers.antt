@@ -1,9 +1,9 @@
 -- What the lexer answers.
---   fits text          whether the text is short enough
---   text_of l           its text
---   pieces l           the pieces that are left of its text
---   Answers xs r ys    with the pieces xs left, it answers r and leaves the pieces ys
---   left l, Next xs r ys     the same by the items that the machine takes: a step for the reader's proof
+--   fits text             whether the text is short enough
+--   text_of l             its text
+--   pieces l              the pieces that are left of its text
+--   Answers xs r ys       with the pieces xs left, it answers r and leaves the pieces ys
+--   left l, Next xs r ys  the same by the items that the machine takes: a step for the reader's proof
 use Rattle.std.specs.Prelude.{◌≡◌, ℕ, cond, List, [], ◌∷◌, length, drop, Some, None, Ok, Err, Option, Result, nat_le}
 use Rattle.grammar.specs.Limits.{max_text}
 use Rattle.words.specs.Words.{Names}

@@ -1,8 +1,8 @@
 -- What the program prints for its input: a rule goes up to the first byte 10, or to the end where there is none.
---   max_input            the most bytes of an input
---   first_line input      the bytes before the first byte 10
---   Answer input line    the line that is printed
---   fault_number, fault_place      the number and the place of a refused input
+--   max_input                  the most bytes of an input
+--   first_line input           the bytes before the first byte 10
+--   Answer input line          the line that is printed
+--   fault_number, fault_place  the number and the place of a refused input
 use Rattle.std.specs.Prelude.{ℕ, ◌<◌, ◌≤◌, cond, List, [], ◌∷◌, length, ◌==◌}
 use Rattle.grammar.specs.Faults.{number, place}
 use Rattle.grammar.specs.Grammar.{Tree}

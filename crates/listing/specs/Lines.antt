@@ -1,7 +1,7 @@
 -- The lines that are printed, the byte 10 at their end included.
---   refusal_line n p      a refusal's line: `!`, its number, a space, its place
---   rule_line text        a rule's line
---   max_line             the most bytes of a line that answers an input: those of the longest rule's
+--   refusal_line n p  a refusal's line: `!`, its number, a space, its place
+--   rule_line text    a rule's line
+--   max_line          the most bytes of a line that answers an input: those of the longest rule's
 use Rattle.std.specs.Prelude.{ℕ, List, [], ◌∷◌, ◌++◌, decimal}
 
 abbrev pub refusal_line : ℕ → ℕ → List ℕ

@@ -1,7 +1,7 @@
 -- One zone to two-valued.
---   two_of b       yes where b is true
---   asked m w     whether the zone that m asks for holds in the word w
---   Asks n r      r is the map that asks for zone n, or nothing where there is no zone n
+--   two_of b   yes where b is true
+--   asked m w  whether the zone that m asks for holds in the word w
+--   Asks n r   r is the map that asks for zone n, or nothing where there is no zone n
 use Rattle.std.specs.Prelude.{◌≡◌, ℕ, ◌<◌, ◌≤◌, Bool, true, false, Some, None, Option}
 use Rattle.kinds.specs.Zones.{bit}
 use Rattle.kinds.specs.declared.two.Two.{Two}

@@ -1,6 +1,6 @@
 -- A margin's sign.
---   sign_of z       of a number: below 0 no, 0 unknown, above 0 yes
---   sign x         of a margin
+--   sign_of z  of a number: below 0 no, 0 unknown, above 0 yes
+--   sign x     of a margin
 use Rattle.std.specs.Prelude.{zero, suc, ℤ, pos, negsuc}
 use Rattle.kinds.specs.Margin.{Held}
 use Rattle.kinds.specs.declared.three.Three.{Three}

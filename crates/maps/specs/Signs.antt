@@ -1,4 +1,4 @@
--- The sign of the lesser, the greater and the opposite of numbers.
+-- The sign of the lesser, the greater and the opposite of numbers, as the impl of the map to signs has to show.
 use Rattle.std.specs.Prelude.{◌≡◌, zero, suc, ℤ, pos, negsuc, neg_ℤ, ◌≤ℤ◌, refl}
 use Rattle.std.proofs.Common.{sym, ◌∙◌, arith}
 use Rattle.std.specs.Int.{int_min, int_max}

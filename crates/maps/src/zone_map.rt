@@ -29,10 +29,10 @@ impl CarryingMap for AtZone {
     ghost carried = { asked };
 
     ghost keeps = { λ m.
-        let means-twoOf : (b : Bool) → two_means (two_of b) ≡ b = elim [ true ↦ refl | false ↦ refl ] in
+        let means_two_of : (b : Bool) → two_means (two_of b) ≡ b = elim [ true ↦ refl | false ↦ refl ] in
         record {
           map = λ v. v (record { index = m.zone; below = m.within });
-          follows = λ w. means-twoOf (bit w.0 m.zone);
+          follows = λ w. means_two_of (bit w.0 m.zone);
           keeps = record { true = refl; false = refl; not = λ x. refl; and = λ x y. refl; or = λ x y. refl };
         } };
 

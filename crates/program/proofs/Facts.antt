@@ -1,10 +1,10 @@
 -- What a program's parts come to, for those who run one.
 --   runs, by_tree               the program runs its rule's tree; what holds wherever it runs a tree holds
 --   sound, sound_at             its steps stand in order, each one of them
---   plain_below, routine_below      its cells keep the values of its steps
---   plain_few, routine_few, steps_few, steps_some      how many cells and steps it has
+--   plain_below, routine_below  its cells keep the values of its steps
+--   plain_few, routine_few, steps_few, steps_some  how many cells and steps it has
 --   predicates_all              how many predicates a reading must have
---   plain_count, routine_count      a rule's cells, by steps and by trees
+--   plain_count, routine_count  a rule's cells, by steps and by trees
 use Rattle.std.proofs.Common.{◌≡◌, ℕ, zero, suc, ◌+◌, ◌-◌, ◌<◌, ◌≤◌, true, false, cond, ◌↔◌, List, [], ◌∷◌, ◌++◌, length, get_or, sym, refl, ap, ◌∙◌, subst, append-nil, add-zero, arith, length-take}
 use mathlib.Core.HLevel.{Unit-prop, ×_prop}
 use mathlib.Core.Logic.{∥∥₁_elim}

@@ -1,9 +1,9 @@
 -- A rule's nodes, one after another, give its steps; and these stand in order.
---   Counted t             each word takes as many units as it has operands
---   Like a b c k          the two cells are of one sort, and the first has the number a where it is plain, b where it is routine
---   Made, FormMade        what the step of a word has
---   planned_plan          the steps of a tree's nodes, and of others behind them
---   plan_sound, plan_asked, plain_sources, routine_sources      what a tree's steps read, ask for and keep
+--   Counted t       each word takes as many units as it has operands
+--   Like a b c k    the two cells are of one sort, and the first has the number a where it is plain, b where it is routine
+--   Made, FormMade  what the step of a word has
+--   planned_plan    the steps of a tree's nodes, and of others behind them
+--   plan_sound, plan_asked, plain_sources, routine_sources  what a tree's steps read, ask for and keep
 use Rattle.std.proofs.Common.{◌≡◌, ℕ, suc, ◌+◌, ◌-◌, ◌<◌, ◌≤◌, List, [], ◌∷◌, ◌++◌, length, sym, refl, ap, ◌∙◌, subst, ap₂, append_assoc, arith, length-append}
 use Rattle.words.specs.Words.{operands}
 use Rattle.words.specs.declared.Word.{Word}
@@ -265,9 +265,9 @@ plan_asked (two w l r) n a b =
     omega (arith, asked_append (plan n a b l) (second ++ s ∷ []), asked_append second (s ∷ []), plan_asked l n a b, plan_asked r (n + size l) a' b', own_asks (two w l r) k (a' + plain_cells r) (b' + routine_cells r))
 
 -- as many cells keep values as the tree has: those that are picked, by steps and by trees
-module _ (pick : Cell → ℕ → List ℕ) (pickTree : Cell → Tree → List Tree) (same : (a b : ℕ) (c k : Cell) → Like a b c k → (i : ℕ) (u : Tree) → length (pick c i) ≡ length (pickTree k u)) where
+module _ (pick : Cell → ℕ → List ℕ) (pick_tree : Cell → Tree → List Tree) (same : (a b : ℕ) (c k : Cell) → Like a b c k → (i : ℕ) (u : Tree) → length (pick c i) ≡ length (pick_tree k u)) where
   abbrev picked : Tree → List Tree
-  picked u = pickTree (cell_of (step_of u)) u
+  picked u = pick_tree (cell_of (step_of u)) u
 
   own_count : (t : Tree) (l a b i : ℕ) → length (sources pick i (own l a b t ∷ [])) ≡ length (picked t)
   own_count t l a b i = ap length (sources_one pick i (own l a b t)) ∙ same a b _ _ (own_made t l a b).like (source (own l a b t) i) t

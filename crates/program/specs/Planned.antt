@@ -1,10 +1,10 @@
 -- The steps of a rule from its nodes, one after another.
---   steps_in, numbers_in    the steps and the numbers that a program's parts hold
---   node_step n a b        the step of a node; a and b are the numbers of its plain and of its routine cell; step_from makes it of its word's form
+--   steps_in, numbers_in  the steps and the numbers that a program's parts hold
+--   node_step n a b       the step of a node; a and b are the numbers of its plain and of its routine cell; step_from makes it of its word's form
 --   PredicateFits n       the node asks for no predicate beyond `p63`
---   plains s, routines s      how many plain and how many routine cells a step has
+--   plains s, routines s  how many plain and how many routine cells a step has
 --   planned a b ns        the steps of the nodes ns, whose first cells have the numbers a and b
---   asked_by s, asked ss   how many predicates a reading must have for a step and for steps: one more than the greatest number of a `pN`
+--   asked_by s, asked ss  how many predicates a reading must have for a step and for steps: one more than the greatest number of a `pN`
 use Rattle.std.specs.Prelude.{◌≡◌, ℕ, suc, ◌+◌, ◌<◌, max, List, [], ◌∷◌, length, take}
 use Rattle.words.specs.declared.Operator.TheVariants.{Predicate as predicate_word}
 use Rattle.grammar.specs.declared.Node.{Node}

@@ -1,11 +1,11 @@
 -- What a program holds of its rule.
---   steps p            its steps, one for each node
---   plain_numbers p, routine_numbers p      for each of its cells the number of the step whose value it keeps
---   predicates t       how many predicates a reading must have for the rule with the tree t: one more than the greatest N of a `pN` in it
---   HasAll n t         a reading of n values has one for each `pN` of the rule
---   Runs p t           the program runs the rule with the tree t
---   Fits s i a b       the step number i has its operands before it, and its cell is one of a plain and b routine cells
---   Sound i a b ss     this holds of all the steps ss, the first of which has the number i
+--   steps p         its steps, one for each node
+--   plain_numbers p, routine_numbers p  for each of its cells the number of the step whose value it keeps
+--   predicates t    how many predicates a reading must have for the rule with the tree t: one more than the greatest N of a `pN` in it
+--   HasAll n t      a reading of n values has one for each `pN` of the rule
+--   Runs p t        the program runs the rule with the tree t
+--   Fits s i a b    the step number i has its operands before it, and its cell is one of a plain and b routine cells
+--   Sound i a b ss  this holds of all the steps ss, the first of which has the number i
 use Rattle.std.specs.Prelude.{◌≡◌, ℕ, suc, ◌<◌, max, List, [], ◌∷◌}
 use Rattle.words.specs.declared.Operator.{Operator}
 use Rattle.words.specs.declared.Operator.TheVariants.{And, Or, Implies, Since, Rsince, Not, Before, Rbefore, Once, Ronce, Always, Ralways, Rise, Fall, True, False, Step, Call, Begin, End, Return, Predicate, Routine}

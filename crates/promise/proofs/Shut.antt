@@ -123,10 +123,10 @@ refused_numbered t d f keeps wrong =
     let r = full t in
     let e = event End 7 in
     let refused : f [] e r ≡ Err (NotInnermost 1) = refusal_is (f [] e r) (NotInnermost 1) (keeps [] none e r).fault in
-    let nothing-accepted : past (put f [] e r) ≡ [] = ap (λ a. if_accepted a (asked e r) ++ []) refused in
-    let F : Fed f [] = record { exchanges = put f [] e r; exchanged = more none e r; accepted = nothing-accepted } in
+    let nothing_accepted : past (put f [] e r) ≡ [] = ap (λ a. if_accepted a (asked e r) ++ []) refused in
+    let F : Fed f [] = record { exchanges = put f [] e r; exchanged = more none e r; accepted = nothing_accepted } in
     let v = next f t d keeps F a_step_event r (full_has t) (omega arith) (one_step d) in
-    let two-is-one : ◌≡◌ {A = ℕ} 1 2 = sym v.number ∙ wrong _ _ _ v.verdict v.gives in
+    let two_is_one : ◌≡◌ {A = ℕ} 1 2 = sym v.number ∙ wrong _ _ _ v.verdict v.gives in
     omega arith
 
 pub refused_without_cause : RefusedWithoutCause
@@ -139,6 +139,6 @@ too_deep_early t d low f keeps wrong =
     let w = walk f t (suc d) keeps r (full_has t) (calls d) (calls_begin (suc d) d (omega arith)) (omega arith) in
     let long : length w.moments ≡ length (calls d) = count w.moments w.are in
     let v = next f t (suc d) keeps w.fed (event Call 1) r (full_has t) (omega arith) (subst (λ l. Begins (suc d) (l ++ event Call 1 ∷ [])) (sym w.are) (call_begins (suc d) d (omega arith))) in
-    let open-now : open_at (events (past w.fed.exchanges)) (length (past w.fed.exchanges)) ≡ d = ap (λ l. open_at (events l) (length l)) w.fed.accepted ∙ (ap₂ open_at w.are long ∙ calls_open d) in
-    let refused = wrong w.fed.exchanges 1 r w.fed.exchanged open-now in
+    let open_now : open_at (events (past w.fed.exchanges)) (length (past w.fed.exchanges)) ≡ d = ap (λ l. open_at (events l) (length l)) w.fed.accepted ∙ (ap₂ open_at w.are long ∙ calls_open d) in
+    let refused = wrong w.fed.exchanges 1 r w.fed.exchanged open_now in
     true≢false (sym refused ∙ ap is_err v.gives.verdict)

@@ -2,11 +2,11 @@
 --   reading w             the values of p0 and p1 that the word w holds, in its bits 0 and 1
 --   moment k n w          an event of the kind k with the routine number n, and the reading of the word w
 --   reel                  a step, the call of routine 7, its begin, a step, its end, its return and a step
---   along t               the two_valued values of the rule with the tree t at the events of the reel, by looking back
+--   along t               the two-valued values of the rule with the tree t at the events of the reel, by looking back
 --   Case text t vs        the text is a rule, it writes the tree t, and its values along the reel are vs
---   TextRefused text n i     the text is refused by the refusal with the number n at the place i
---   EventRefused h e n i     behind the accepted moments h, the one right answer to the event e is the refusal with the number n
---                             at the place i, for every rule, depth limit and reading
+--   TextRefused text n i  the text is refused by the refusal with the number n at the place i
+--   EventRefused h e n i  behind the accepted moments h, the one right answer to the event e is the refusal with the number n
+--                         at the place i, for every rule, depth limit and reading
 --   margins x y           one step at which p0 has the margin x and p1 the margin y
 --   Worked                the cases
 use Rattle.std.specs.Prelude.{◌≡◌, ℕ, ◌/◌, ◌%◌, Bool, true as yes, false as no, List, [], ◌∷◌, map, ℤ, pos, neg_ℤ, None, Err, codes, ◌==◌}
@@ -77,7 +77,7 @@ pub record Worked : Type 0 where
   -- `rise` is yes at the first event, where nothing came before
   pub rise_p0 : Case (codes "rise p0") (one (word Rise 0) (p 0)) (yes ∷ no ∷ no ∷ yes ∷ no ∷ no ∷ no ∷ [])
   pub empty_text : TextRefused (codes "") 15 0
-  -- a second two_sided word wants parentheses
+  -- a second two-sided word wants parentheses
   pub without_parentheses : TextRefused (codes "p1 and p2 or p3") 14 10
   -- an end where nothing is open, as the first event
   pub end_first : EventRefused [] (event End 7) 35 1

@@ -4,7 +4,7 @@
 --   Exchanged f xs    the exchanges xs came about by f alone
 --   past xs           the moments that were accepted among the exchanges xs, by what their readings mean
 --   Gives f xs e r v  after the exchanges xs, f gives the verdict v to the event e with the reading r
---   Keeps t d f       f keeps the promise of a two_valued watcher of the rule with the tree t under the depth limit d, with
+--   Keeps t d f       f keeps the promise of a two-valued watcher of the rule with the tree t under the depth limit d, with
 --                     memory enough: after all exchanges that can come about, every event is answered right
 --   Making K          what is answered to a making from a program, a depth limit, lists 1 to 4 and list 5
 --   Makes m           m keeps the promise of a making

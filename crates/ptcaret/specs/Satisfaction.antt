@@ -1,13 +1,13 @@
 -- When a trace satisfies a rule, read as a formula of the past-time logic of calls and returns (PTCARET).
---   Formula                    what a formula means: which traces satisfy it
---   truth, atom, not, and      the logic's own operators: true, what the last state shows, not, and
---   previously Back f          f is satisfied by the trace cut back, where Back w v says that w cut back is v: the prefix of w for the plain
---                              operator, its abstract prefix for the abstract one
---   Since Back f g             f since g in the same two forms
---   falsehood, or, implies, once, always       the operators that the logic derives from these
---   rise, fall                 not of the logic: f from now on, f until now
---   meaning o                  what the operator of a word means
---   Sat t w                    the trace w satisfies the rule with the tree t
+--   Formula                what a formula means: which traces satisfy it
+--   truth, atom, not, and  the logic's own operators: true, what the last state shows, not, and
+--   previously Back f      f is satisfied by the trace cut back, where Back w v says that w cut back is v: the prefix of w for the plain
+--                          operator, its abstract prefix for the abstract one
+--   Since Back f g         f since g in the same two forms
+--   falsehood, or, implies, once, always  the operators that the logic derives from these
+--   rise, fall             not of the logic: f from now on, f until now
+--   meaning o              what the operator of a word means
+--   Sat t w                the trace w satisfies the rule with the tree t
 use Rattle.std.specs.Prelude.{ℕ, true, false, [], ◌∷◌, ◌++◌, ◌≡◌, get_or}
 use Rattle.words.specs.declared.Operator.{Operator}
 use Rattle.words.specs.declared.Operator.TheVariants.{And, Or, Implies, Since as SinceWord, Rsince, Not, Before, Rbefore, Once, Ronce, Always, Ralways, Rise, Fall, True, False, Step, Call, Begin, End, Return, Predicate, Routine}

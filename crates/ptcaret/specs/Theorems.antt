@@ -1,6 +1,6 @@
 -- What holds of satisfaction on traces that begin a well-nested reel.
---   ValueIsSatisfaction       a rule's two-valued value by looking back is whether the trace satisfies it
---   AbstractPrefixIsPrior    the abstract prefix ends at the event that routine words look back to
+--   ValueIsSatisfaction    a rule's two-valued value by looking back is whether the trace satisfies it
+--   AbstractPrefixIsPrior  the abstract prefix ends at the event that routine words look back to
 use Rattle.std.specs.Prelude.{ℕ, suc, ◌≤◌, ◌<◌, true, false, ◌≡◌, ◌↔◌, length, take}
 use Rattle.grammar.specs.Grammar.{Tree}
 use Rattle.kinds.specs.Two.{two as two_valued}

@@ -1,7 +1,7 @@
 -- What reading a text promises.
---   Reading text r           r is the right answer to the text
---   SomeTextAccepted       no reader that keeps the promise refuses every text
---   SomeTextNotTrue       none makes the rule `true` of every text that it accepts
+--   Reading text r    r is the right answer to the text
+--   SomeTextAccepted  no reader that keeps the promise refuses every text
+--   SomeTextNotTrue   none makes the rule `true` of every text that it accepts
 use Rattle.std.specs.Prelude.{◌≡◌, ℕ, true, List, is_err, IfOk, Err, Result, MatchResult}
 use Rattle.words.specs.declared.Operator.TheVariants.{True}
 use Rattle.grammar.specs.Grammar.{Tree, leaf}

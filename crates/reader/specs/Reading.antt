@@ -1,7 +1,7 @@
 -- What the reader's functions come to, by the machine that takes a text's tokens one by one: a step in the proof of the
 -- reader.
---   Grown d e t              a draft has grown by a tree
---   ReadUnit, ReadRule     what the functions for a unit and for a rule promise
+--   Grown d e t         a draft has grown by a tree
+--   ReadUnit, ReadRule  what the functions for a unit and for a rule promise
 use Rattle.std.specs.Prelude.{◌≡◌, ℕ, ◌+◌, List, ◌∷◌, ◌++◌, Some, None, Ok, Err, Option, Result}
 use Rattle.grammar.specs.Limits.{max_depth}
 use Rattle.grammar.specs.Grammar.{Tree, rule, unit}

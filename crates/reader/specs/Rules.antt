@@ -1,7 +1,7 @@
 -- What a rule holds.
---   nodes_in r      its nodes
---   Writes r t     they are the nodes of the tree t
---   TreeOf r t     t is the tree of the rule
+--   nodes_in r  its nodes
+--   Writes r t  they are the nodes of the tree t
+--   TreeOf r t  t is the tree of the rule
 use Rattle.std.specs.Prelude.{◌≡◌, ℕ, List, take}
 use Rattle.grammar.specs.declared.Node.{Node}
 use Rattle.grammar.specs.Grammar.{Tree}

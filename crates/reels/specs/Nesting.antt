@@ -1,12 +1,12 @@
 -- The nesting of the events so far, as a watcher keeps it, and the events that it refuses:
 -- a step between code and promise.
---   Pending        what is due next: nothing, the begin of a call, or the return of an end
---   Nest           the numbers of the open routines, innermost first, and what is due
---   Fault          why an event is refused
---   judged d s e   what the nest s says of the event e under the depth limit d: a fault, or nothing where it is taken
---   next s e       the nest after the event e
---   Takes d s es   the events es are taken one after another from the nest s
---   follow s es    the nest after the events es
+--   Pending       what is due next: nothing, the begin of a call, or the return of an end
+--   Nest          the numbers of the open routines, innermost first, and what is due
+--   Fault         why an event is refused
+--   judged d s e  what the nest s says of the event e under the depth limit d: a fault, or nothing where it is taken
+--   next s e      the nest after the event e
+--   Takes d s es  the events es are taken one after another from the nest s
+--   follow s es   the nest after the events es
 use Rattle.std.specs.Prelude.{◌≡◌, ℕ, Bool, true, false, cond, ◌↔◌, List, [], ◌∷◌, ◌++◌, length, Some, None, Option, ◌==◌, nat_lt}
 use Rattle.reels.specs.Reels.{fit, Begins}
 use Rattle.reels.specs.declared.Event.{Event}
@@ -27,7 +27,7 @@ abbrev pub start : Nest
 start = record { opened = []; pending = calm }
 
 -- unfit: the number does not fit the kind; after_call, after_end: another event is due; stray: a begin or return
--- that is not due; not-innermost: an end of another routine than the innermost; too-deep: a call with the limit open
+-- that is not due; not_innermost: an end of another routine than the innermost; too_deep: a call with the limit open
 pub data Fault : Type 0 where
   unfit after_call after_end stray not_innermost too_deep : Fault
 

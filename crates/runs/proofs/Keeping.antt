@@ -1,6 +1,6 @@
 -- An accepted event, by what its lists mean: the values of the nodes are those of the steps, and the lists hold the memory that is settled.
---   Shaped         a memory of stacked layers of routine cells, as many as routines are open
---   Keeps          the lists of a watcher hold a memory
+--   Shaped  a memory of stacked layers of routine cells, as many as routines are open
+--   Keeps   the lists of a watcher hold a memory
 use Rattle.std.proofs.Common.{◌≡◌, ℕ, zero, suc, pred, ◌-◌, ◌*◌, ◌<◌, ◌≤◌, true, List, [], ◌∷◌, map, length, get_or, take, drop, Some, sym, refl, ap, ◌∙◌, ap₂, arith, length-take}
 use lib.ListN.{length-map}
 use Rattle.std.specs.List.{slice_get}
@@ -96,9 +96,9 @@ module _ (A : Algebra) {K : Type 0} (means : K → A.Val) (p : Program) where
       routine_after_lem d End l =
           let b = routine_cells p in
           let back = take b (drop (b * pred n.depth) o.stack) in
-          let means-top : map means back ≡ top m.stack = top_flat means b n.depth o.stack m.stack f.layers f.height k.stack (l refl) in
-          let long : length back ≡ b = sym (length-map back means) ∙ (ap length means-top ∙ top_length means b n.depth o.stack m.stack f.layers f.height k.stack (l refl)) in
-          ap (map means) (take_at back (drop b o.routine) b long) ∙ means-top
+          let means_top : map means back ≡ top m.stack = top_flat means b n.depth o.stack m.stack f.layers f.height k.stack (l refl) in
+          let long : length back ≡ b = sym (length-map back means) ∙ (ap length means_top ∙ top_length means b n.depth o.stack m.stack f.layers f.height k.stack (l refl)) in
+          ap (map means) (take_at back (drop b o.routine) b long) ∙ means_top
       routine_after_lem d Return l = cells_mean d (routine_numbers p) o.routine (λ i. routine_below p i 0)
 
       stack_after_lem : (j : EventKind) → Opened j → map means (take (routine_cells p * depth_after j n.depth) (stack_after p n o j)) ≡ flat (settled j m new_kept).stack

@@ -1,6 +1,6 @@
 -- What a watcher promises of its answers.
---   Answered         the right answer to an event after the accepted moments h, for a rule with the tree t under the depth limit d
---   LooksBack       in every run of a watcher, every event is answered so
+--   Answered   the right answer to an event after the accepted moments h, for a rule with the tree t under the depth limit d
+--   LooksBack  in every run of a watcher, every event is answered so
 use Rattle.std.specs.Prelude.{◌≡◌, ℕ, suc, ◌<◌, true, ◌↔◌, List, [], ◌∷◌, ◌++◌, length, is_err, None, Ok, Option}
 use Rattle.std.specs.Result.{result_err}
 use Rattle.grammar.specs.Grammar.{Tree}

@@ -1,9 +1,9 @@
 -- Two watchers of one rule and depth limit, whose readings are carried from the kind of the first into that of the second.
---   SameGiven x y       the second was given the event of the first, with its reading carried
---   Enough x            the memory was enough: no list was too short
---   SameAnswer a b      the answer b is the answer a carried: the same refusal, or the same number and the value carried
---   Alike x y           both were given the same and had memory enough
---   AllAlike, AllSame   for runs of the two: so at each of their events
+--   SameGiven x y      the second was given the event of the first, with its reading carried
+--   Enough x           the memory was enough: no list was too short
+--   SameAnswer a b     the answer b is the answer a carried: the same refusal, or the same number and the value carried
+--   Alike x y          both were given the same and had memory enough
+--   AllAlike, AllSame  for runs of the two: so at each of their events
 --   CarriesOver        in two such runs, every answer is the same
 use Rattle.std.specs.Prelude.{◌≡◌, ℕ, List, [], ◌∷◌, map, Ok, Err, ◌≢◌}
 use Rattle.grammar.specs.Grammar.{Tree}

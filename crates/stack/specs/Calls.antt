@@ -1,10 +1,10 @@
 -- What each call of a stack answers and leaves.
---   places s             what the lent slice holds, the lowest element first
---   Unchanged s t        the stack t is as s was
---   Pushed s x r t       `push` of x: on top, or handed back when every place is taken
---   Popped s r t         `pop`: the top, or nothing when there is no element
---   PushedAll s xs r t   `push_all` of xs: all of them in order, or none
---   PoppedAll s n out r t     `pop_all` of n elements into out: the topmost n, the lowest of them first, or none
+--   places s               what the lent slice holds, the lowest element first
+--   Unchanged s t          the stack t is as s was
+--   Pushed s x r t         `push` of x: on top, or handed back when every place is taken
+--   Popped s r t           `pop`: the top, or nothing when there is no element
+--   PushedAll s xs r t     `push_all` of xs: all of them in order, or none
+--   PoppedAll s n out r t  `pop_all` of n elements into out: the topmost n, the lowest of them first, or none
 use Rattle.std.specs.Prelude.{◌≡◌, ℕ, ◌+◌, ◌<◌, ◌≤◌, List, length, take, drop, Some, None, Ok, Err, Option, Result, slice_set}
 use Rattle.std.proofs.Math.Seq.{paste}
 use Rattle.std.specs.List.{slice_get}

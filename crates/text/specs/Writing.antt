@@ -1,6 +1,6 @@
 -- What a call that writes a text into lent memory answers, and what the memory then holds.
---   Written old new text r      the answer r of writing the text into memory that held old and then holds new
---   number_of f, place_of f       the number and the place of a refusal
+--   Written old new text r   the answer r of writing the text into memory that held old and then holds new
+--   number_of f, place_of f  the number and the place of a refusal
 use Rattle.std.specs.Prelude.{◌≡◌, ℕ, ◌<◌, ◌≤◌, List, ◌++◌, length, drop, Ok, Err, Result}
 use Rattle.text.specs.declared.WriteFault.{WriteFault}
 use Rattle.text.specs.declared.WriteFault.TheVariants.{TooShort}

@@ -1,12 +1,12 @@
 -- What making a watcher and giving it an event answer, and what the lists then hold, for any watcher and any lists. Cells
 -- and working values are copied as they are kept; the values of the nodes are said by what they mean.
---   first_nesting d     the nesting of a watcher just made
---   Fresh              the cells that a making writes, and every other place as it was
---   Made               the answer to a making
---   next_nesting n e    the nesting after an accepted event
---   plain_after, routine_after, stack_after, opened_after     the lists 1 to 4 after an accepted event
---   Accepted           the answer to an accepted event, and the lists then
---   Given              the answer to an event
+--   first_nesting d   the nesting of a watcher just made
+--   Fresh             the cells that a making writes, and every other place as it was
+--   Made              the answer to a making
+--   next_nesting n e  the nesting after an accepted event
+--   plain_after, routine_after, stack_after, opened_after  the lists 1 to 4 after an accepted event
+--   Accepted          the answer to an accepted event, and the lists then
+--   Given             the answer to an event
 use Rattle.std.specs.Prelude.{◌≡◌, ℕ, suc, pred, ◌+◌, ◌-◌, ◌*◌, List, [], ◌++◌, map, length, take, drop, Some, None, Ok, Err, Result, slice_set}
 use Rattle.std.specs.List.{slice_get}
 use Rattle.kinds.specs.Algebra.{Algebra}

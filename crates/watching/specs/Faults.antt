@@ -1,8 +1,8 @@
 -- The number and the place of each refusal of a watcher, and its limits.
 --   max_limit      the highest depth limit
 --   max_events     how many events a watcher accepts at most
---   list_number l   the number of a list
---   fault_number f, fault_place f      the number and the place of a refusal
+--   list_number l  the number of a list
+--   fault_number f, fault_place f  the number and the place of a refusal
 use Rattle.std.specs.Prelude.{ℕ}
 use Rattle.watching.specs.declared.LentList.{LentList}
 use Rattle.watching.specs.declared.LentList.TheVariants.{Plain, Routine, Stack, Opened, Working}

@@ -1,10 +1,10 @@
 -- The memory that is lent to a watcher's calls.
---   Own V            what the lists 1 to 4 hold, which are the watcher's own
+--   Own V                  what the lists 1 to 4 hold, which are the watcher's own
 --   own_of, working_of     what is lent, from the lists as they are passed
 --   own_left, working_left what the lists hold when the call returns
---   plain_cells p, routine_cells p, node_count p     how many cells and nodes a program has
---   short_for a b k d o n     the first list that is too short for so many cells and nodes under the depth limit d; n is the length of list 5
---   short_list p d o n    the first list that is too short for a program
+--   plain_cells p, routine_cells p, node_count p  how many cells and nodes a program has
+--   short_for a b k d o n  the first list that is too short for so many cells and nodes under the depth limit d; n is the length of list 5
+--   short_list p d o n     the first list that is too short for a program
 use Rattle.std.specs.Prelude.{ℕ, ◌*◌, cond, List, length, Some, None, Option, nat_lt}
 use Rattle.std.specs.Borrow.{MutBor}
 use Rattle.program.specs.Programs.{steps, plain_numbers, routine_numbers}

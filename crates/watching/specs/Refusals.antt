@@ -1,10 +1,10 @@
 -- Which calls are refused, and by what.
---   nest_of n os      the nest of a watcher: its open routines stand in list 4, the innermost last
---   number_of n       the number that the next event has when it is accepted
---   first_of x y      the first that there is
---   fault_of i f      the refusal by a fault of the nesting
---   making_refusal    the refusal of a making, or nothing where a watcher is made
---   refusal          the refusal of an event, or nothing where it is accepted
+--   nest_of n os    the nest of a watcher: its open routines stand in list 4, the innermost last
+--   number_of n     the number that the next event has when it is accepted
+--   first_of x y    the first that there is
+--   fault_of i f    the refusal by a fault of the nesting
+--   making_refusal  the refusal of a making, or nothing where a watcher is made
+--   refusal         the refusal of an event, or nothing where it is accepted
 use Rattle.std.specs.Prelude.{ℕ, suc, cond, List, map, reverse, take, Some, None, Option, nat_lt}
 use Rattle.std.specs.Option.{option_map}
 use Rattle.reels.specs.Nesting.{Pending, calm, called, ended, Nest, Fault, unfit, after_call, after_end, stray, not_innermost, too_deep, judged}

@@ -1,7 +1,7 @@
 -- What the bytes of a word are: letters and digits, at least one, and how many at most.
---   letter b            the byte is a letter a–z or a digit
---   Lettered bs         each of the bytes is
---   longest p           the most bytes of a word with so many operands
+--   letter b     the byte is a letter a–z or a digit
+--   Lettered bs  each of the bytes is
+--   longest p    the most bytes of a word with so many operands
 -- Where only the digits matter, a number of 16 bits takes the place of one that the table allows.
 use Rattle.std.proofs.Common.{◌≡◌, ℕ, ◌+◌, ◌^◌, ◌<◌, ◌≤◌, Bool, true, ◌&&◌, ◌||◌, ltb, leb, List, [], ◌∷◌, length, decimal, refl, arith, length-append}
 use Rattle.std.specs.Str.Parse.{digits_value}
@@ -19,7 +19,7 @@ use Rattle.words.specs.declared.Operands.TheVariants.{Zero, One, Two}
 use Rattle.words.specs.declared.Operator.{Operator}
 use Rattle.words.specs.declared.Operator.TheVariants.{And, Or, Implies, Since, Rsince, Not, Before, Rbefore, Once, Ronce, Always, Ralways, Rise, Fall, True, False, Step, Call, Begin, End, Return, Predicate, Routine}
 
--- `allDigits` and `value 10`, in the words of the library's lemmas
+-- `all_ascii_digits` and `digits_value 10`, in the words of the library's lemmas
 pub own : IsNumeralModel (λ ds. all_ascii_digits ds ≡ true) (digits_value 10)
 own = numerals_by_value _ tells_all_ascii_digits
 

@@ -1,13 +1,13 @@
 -- The search of the table, row by row, for the word that some bytes are: a step in the proof of the reader.
---   starts_number ds          there is a byte, and no other behind a leading zero
---   is_numeral ds             the bytes are digits with no leading zero
---   value_up_to high ds        the number that the bytes write, if it is at most `high`; with_digit reads one digit of it
---   numbered k ds            the number that the bytes behind a word give it
---   behind k ts bs           the number that the bytes give the word with the text ts
---   Line, line, line_of       what the search reads of a row: of an operator's, and of one of the code's table
---   fit l bs                 the number that the bytes give the word of the line
---   seek ls bs               the word of the first line that the bytes fit
---   lookup bs                the listed word that is written so, or nothing
+--   starts_number ds     there is a byte, and no other behind a leading zero
+--   is_numeral ds        the bytes are digits with no leading zero
+--   value_up_to high ds  the number that the bytes write, if it is at most `high`; with_digit reads one digit of it
+--   numbered k ds        the number that the bytes behind a word give it
+--   behind k ts bs       the number that the bytes give the word with the text ts
+--   Line, line, line_of  what the search reads of a row: of an operator's, and of one of the code's table
+--   fit l bs             the number that the bytes give the word of the line
+--   seek ls bs           the word of the first line that the bytes fit
+--   lookup bs            the listed word that is written so, or nothing
 use Rattle.std.specs.Prelude.{ℕ, ◌+◌, ◌-◌, ◌*◌, Bool, true, false, cond, not, ◌&&◌, List, [], ◌∷◌, map, Some, None, Option, ◌==◌, nat_le}
 use Rattle.std.specs.Str.Parse.{digits_value}
 use Rattle.std.specs.Char.{is_ascii_digit}

@@ -1,9 +1,9 @@
 -- The words of the rule language: their bytes, how many units each takes, and which numbers may follow.
---   Numbering      whether a number follows a word, and from where to where
---   row, text, operands, numbering      the table, and its columns
---   spell w        the bytes of a word as written
---   Listed w       the word's number is one that the table allows
---   Names bs w     the bytes are those of the listed word w
+--   Numbering   whether a number follows a word, and from where to where
+--   row, text, operands, numbering  the table, and its columns
+--   spell w     the bytes of a word as written
+--   Listed w    the word's number is one that the table allows
+--   Names bs w  the bytes are those of the listed word w
 use Rattle.std.specs.Prelude.{◌≡◌, ℕ, ◌≤◌, List, [], ◌++◌, codes, decimal}
 use Rattle.words.specs.declared.Operator.{Operator}
 use Rattle.words.specs.declared.Operator.TheVariants.{And, Or, Implies, Since, Rsince, Not, Before, Rbefore, Once, Ronce, Always, Ralways, Rise, Fall, True, False, Step, Call, Begin, End, Return, Predicate, Routine}

@@ -144,69 +144,69 @@ pub rule-returns-in_err-next : goal.rule-returns-in_err-next
 rule-returns-in_err-next t c =
     let a = c.in_err-next.ensures.answer in
     let rd = c.in_ok-unit.ensures.read in
-    let first-unit = had_run _ c.args.deep _ _ _ _ _ rd.0 rd.1 a.1 in
+    let first_unit = had_run _ c.args.deep _ _ _ _ _ rd.0 rd.1 a.1 in
     record {
       read =
           let p = err_from_is_err_and c.from_residual-in_err-next.result c.from_residual-in_err-next.ensures.1 in
-          rw (p.1, p.2) (λ K h. first-unit K h ∙ at_bad _ _ (had rd.0 K) _ a.0);
+          rw (p.1, p.2) (λ K h. first_unit K h ∙ at_bad _ _ (had rd.0 K) _ a.0);
       same_text = c.next.ensures.same_text ∙ c.unit.ensures.same_text;
     }
 
 pub rule-returns-in_default : goal.rule-returns-in_default
 rule-returns-in_default t c =
     let rd = c.in_ok-unit.ensures.read in
-    let first-unit = had_run _ c.args.deep _ _ _ _ _ rd.0 rd.1 (next_none (left c.unit.new.lexer) (left c.next.new.self) c.in_default.is c.in_ok-next.ensures.answer) in
-    record { read = (rd.0, (λ K h. first-unit K h ∙ at_end _ _ (had rd.0 K)), rd.2); same_text = c.next.ensures.same_text ∙ c.unit.ensures.same_text }
+    let first_unit = had_run _ c.args.deep _ _ _ _ _ rd.0 rd.1 (next_none (left c.unit.new.lexer) (left c.next.new.self) c.in_default.is c.in_ok-next.ensures.answer) in
+    record { read = (rd.0, (λ K h. first_unit K h ∙ at_end _ _ (had rd.0 K)), rd.2); same_text = c.next.ensures.same_text ∙ c.unit.ensures.same_text }
 
 pub rule-returns-in_default-token : goal.rule-returns-in_default-token
 rule-returns-in_default-token t c =
     let rd = c.in_ok-unit.ensures.read in
-    let first-unit = had_run _ c.args.deep _ _ _ _ _ rd.0 rd.1 (next_some (left c.unit.new.lexer) (left c.next.new.self) c.in-Some.is c.in_ok-next.ensures.answer) in
-    record { read = (rd.0, (λ K h. first-unit K h ∙ alone_by_token _ _ rd.0 K c.in-Some.next _ c.in_default-token.not-Word), rd.2); same_text = c.next.ensures.same_text ∙ c.unit.ensures.same_text }
+    let first_unit = had_run _ c.args.deep _ _ _ _ _ rd.0 rd.1 (next_some (left c.unit.new.lexer) (left c.next.new.self) c.in-Some.is c.in_ok-next.ensures.answer) in
+    record { read = (rd.0, (λ K h. first_unit K h ∙ alone_by_token _ _ rd.0 K c.in-Some.next _ c.in_default-token.not-Word), rd.2); same_text = c.next.ensures.same_text ∙ c.unit.ensures.same_text }
 
 pub rule-returns-in_default-operands_of : goal.rule-returns-in_default-operands_of
 rule-returns-in_default-operands_of t c =
     let rd = c.in_ok-unit.ensures.read in
-    let first-unit = had_run _ c.args.deep _ _ _ _ _ rd.0 rd.1 (next_some (left c.unit.new.lexer) (left c.next.new.self) c.in-Some.is c.in_ok-next.ensures.answer) in
+    let first_unit = had_run _ c.args.deep _ _ _ _ _ rd.0 rd.1 (next_some (left c.unit.new.lexer) (left c.next.new.self) c.in-Some.is c.in_ok-next.ensures.answer) in
     record {
-      read = (rd.0, (λ K h. first-unit K h ∙ alone_by_word _ _ rd.0 K c.in-Some.next c.in-Word.word _ c.in-Word.is (λ e. c.in_default-operands_of.not-Two (c.operands_of.ensures.value ∙ e))), rd.2);
+      read = (rd.0, (λ K h. first_unit K h ∙ alone_by_word _ _ rd.0 K c.in-Some.next c.in-Word.word _ c.in-Word.is (λ e. c.in_default-operands_of.not-Two (c.operands_of.ensures.value ∙ e))), rd.2);
       same_text = c.next.ensures.same_text ∙ c.unit.ensures.same_text;
     }
 
 pub rule-returns-in_err-count : goal.rule-returns-in_err-count
 rule-returns-in_err-count t c =
     let rd = c.in_ok-unit.ensures.read in
-    let first-unit = had_run _ c.args.deep _ _ _ _ _ rd.0 rd.1 (next_some (left c.unit.new.lexer) (left c.next.new.self) c.in-Some.is c.in_ok-next.ensures.answer ∙ ap (λ x. token c.in-Some.next.place x ∷ left c.next.new.self) c.in-Word.is) in
+    let first_unit = had_run _ c.args.deep _ _ _ _ _ rd.0 rd.1 (next_some (left c.unit.new.lexer) (left c.next.new.self) c.in-Some.is c.in_ok-next.ensures.answer ∙ ap (λ x. token c.in-Some.next.place x ∷ left c.next.new.self) c.in-Word.is) in
     let two_sided : takes c.in-Word.word ≡ Two = sym c.operands_of.ensures.value ∙ c.in-Two.is in
     let many = c.in_err-count.ensures.counted in
     record {
       read =
           let p = err_from_is_err_and c.from_residual-in_err-count.result c.from_residual-in_err-count.ensures.1 in
-          rw (p.1, p.2, many.0) (λ K h. first-unit K h ∙ two_many _ _ _ rd.0 K c.in-Word.word _ two_sided (omega arith) many.1);
+          rw (p.1, p.2, many.0) (λ K h. first_unit K h ∙ two_many _ _ _ rd.0 K c.in-Word.word _ two_sided (omega arith) many.1);
       same_text = c.next.ensures.same_text ∙ c.unit.ensures.same_text;
     }
 
 pub rule-returns-in_err-unit-2 : goal.rule-returns-in_err-unit-2
 rule-returns-in_err-unit-2 t c =
     let rd = c.in_ok-unit.ensures.read in
-    let first-unit = had_run _ c.args.deep _ _ _ _ _ rd.0 rd.1 (next_some (left c.unit.new.lexer) (left c.next.new.self) c.in-Some.is c.in_ok-next.ensures.answer ∙ ap (λ x. token c.in-Some.next.place x ∷ left c.next.new.self) c.in-Word.is) in
+    let first_unit = had_run _ c.args.deep _ _ _ _ _ rd.0 rd.1 (next_some (left c.unit.new.lexer) (left c.next.new.self) c.in-Some.is c.in_ok-next.ensures.answer ∙ ap (λ x. token c.in-Some.next.place x ∷ left c.next.new.self) c.in-Word.is) in
     let two_sided : takes c.in-Word.word ≡ Two = sym c.operands_of.ensures.value ∙ c.in-Two.is in
     let more = c.in_ok-count.ensures in
-    let second-unit = want_second _ c.args.deep _ _ c.count.new.self.words _ _ _ _ rd.0 c.in-Word.word first-unit two_sided (ap length (c.next.ensures.same_text ∙ c.unit.ensures.same_text)) more.counted c.count.new.self.few in
+    let second_unit = want_second _ c.args.deep _ _ c.count.new.self.words _ _ _ _ rd.0 c.in-Word.word first_unit two_sided (ap length (c.next.ensures.same_text ∙ c.unit.ensures.same_text)) more.counted c.count.new.self.few in
     record {
       read =
           let p = err_from_is_err_and c.from_residual-in_err-unit-2.result c.from_residual-in_err-unit-2.ensures.1 in
-          rw (p.1, p.2) (λ K h. second-unit K h ∙ c.in_err-unit-2.ensures.read (second c.in-Word.word rd.0 K) (omega (arith, second_depth c.in-Word.word rd.0 K)));
+          rw (p.1, p.2) (λ K h. second_unit K h ∙ c.in_err-unit-2.ensures.read (second c.in-Word.word rd.0 K) (omega (arith, second_depth c.in-Word.word rd.0 K)));
       same_text = c.unit-2.ensures.same_text ∙ c.next.ensures.same_text ∙ c.unit.ensures.same_text;
     }
 
 pub rule-returns : goal.rule-returns
 rule-returns t c =
     let rd = c.in_ok-unit.ensures.read in
-    let first-unit = had_run _ c.args.deep _ _ _ _ _ rd.0 rd.1 (next_some (left c.unit.new.lexer) (left c.next.new.self) c.in-Some.is c.in_ok-next.ensures.answer ∙ ap (λ x. token c.in-Some.next.place x ∷ left c.next.new.self) c.in-Word.is) in
+    let first_unit = had_run _ c.args.deep _ _ _ _ _ rd.0 rd.1 (next_some (left c.unit.new.lexer) (left c.next.new.self) c.in-Some.is c.in_ok-next.ensures.answer ∙ ap (λ x. token c.in-Some.next.place x ∷ left c.next.new.self) c.in-Word.is) in
     let two_sided : takes c.in-Word.word ≡ Two = sym c.operands_of.ensures.value ∙ c.in-Two.is in
     let more = c.in_ok-count.ensures in
-    let second-unit = want_second _ c.args.deep _ _ c.count.new.self.words _ _ _ _ rd.0 c.in-Word.word first-unit two_sided (ap length (c.next.ensures.same_text ∙ c.unit.ensures.same_text)) more.counted c.count.new.self.few in
+    let second_unit = want_second _ c.args.deep _ _ c.count.new.self.words _ _ _ _ rd.0 c.in-Word.word first_unit two_sided (ap length (c.next.ensures.same_text ∙ c.unit.ensures.same_text)) more.counted c.count.new.self.few in
     let re = c.in_ok-unit-2.ensures.read in
     let counted : Counted c.unit.new.draft c.count.new.self = record { same = more.same; words = more.counted } in
     let pushed : Pushed c.unit-2.new.draft c.push.new.self c.in-Word.word (c.unit.new.draft.nodes.len - 1) = record { pushed = c.push.ensures.pushed; len = c.push.ensures.len; words = c.push.ensures.words } in
@@ -215,7 +215,7 @@ rule-returns t c =
       read =
           rule_by_next _ c.args.deep _ (left c.unit-2.new.lexer) _ _ _ tree c.next-2.result
           (λ K h.
-          second-unit K h ∙ re.1 (second c.in-Word.word rd.0 K) (omega (arith, second_depth c.in-Word.word rd.0 K))
+          second_unit K h ∙ re.1 (second c.in-Word.word rd.0 K) (omega (arith, second_depth c.in-Word.word rd.0 K))
           ∙ ap₂ (λ n k. runs n (unit_done (second c.in-Word.word rd.0 K) re.0) k (left c.unit-2.new.lexer)) (ap length (c.next.ensures.same_text ∙ c.unit.ensures.same_text)) (sym c.push.ensures.words)
           ∙ ap (λ S. runs (length (text_of c.args.lexer.now)) S c.push.new.self.words (left c.unit-2.new.lexer)) (second_done c.in-Word.word rd.0 K re.0))
           (grown_two rd.2 counted re.2 pushed refl)
