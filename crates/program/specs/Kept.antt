@@ -1,5 +1,5 @@
 -- What a step keeps for the next event.
---   in_plain k, in_routine k     the number that goes with a plain, with a routine cell, where there is one
+--   in_plain k, in_routine k  the number that goes with a plain, with a routine cell, where there is one
 use Rattle.std.specs.Prelude.{ℕ, List, [], ◌∷◌}
 use Rattle.program.specs.declared.making.Kept.{Kept}
 use Rattle.program.specs.declared.making.Kept.TheVariants.{Nothing, Plain, Routine}

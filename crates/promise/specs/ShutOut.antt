@@ -1,20 +1,20 @@
 -- What the promise of a watcher shuts out. Each statement says that nothing which keeps the promise is wrong in one way.
---   ShutsOut t d W     nothing that keeps the promise for the rule with the tree t under the depth limit d is wrong in the way W
---   KeptBySome        for every rule and depth limit, something keeps the promise: no statement below is idle
+--   ShutsOut t d W   nothing that keeps the promise for the rule with the tree t under the depth limit d is wrong in the way W
+--   KeptBySome       for every rule and depth limit, something keeps the promise: no statement below is idle
 -- The wrong ways, each with the statement that shuts it out:
---   RepeatsFirst       FirstEventOnly        every later verdict has the value of the first one
---   OneValue           OneVerdict             all verdicts have one value
---   Forgets             NoCells                an event gets the value that it would get as the first, whatever was accepted before it
---   NeverAsks          SourceNotAsked        the answer is the same for all readings of one length
---   CountsBy g         MadeUpNumbers         the verdict after n accepted events has the number g n, which is not n + 1 for some n
---   CountsRefused      RefusedNumbered        refused events are counted too
---   RefusesRight       RefusedWithoutCause   some event is refused although a well-nested reel within the depth limit begins with
---                                               the accepted events and then it, the reading has all predicates, and there are event
---                                               numbers left
---   RefusesLastCall   TooDeepEarly          every call is refused while one routine less than the depth limit is open
+--   RepeatsFirst     FirstEventOnly         every later verdict has the value of the first one
+--   OneValue         OneVerdict             all verdicts have one value
+--   Forgets          NoCells                an event gets the value that it would get as the first, whatever was accepted before it
+--   NeverAsks        SourceNotAsked         the answer is the same for all readings of one length
+--   CountsBy g       MadeUpNumbers          the verdict after n accepted events has the number g n, which is not n + 1 for some n
+--   CountsRefused    RefusedNumbered        refused events are counted too
+--   RefusesRight     RefusedWithoutCause    some event is refused although a well-nested reel within the depth limit begins with
+--                                           the accepted events and then it, the reading has all predicates, and there are event
+--                                           numbers left
+--   RefusesLastCall  TooDeepEarly           every call is refused while one routine less than the depth limit is open
 -- Of makings:
---   MakingRefusedWithoutCause     none is refused where the depth limit is at most 256 and no list is too short
---   MakingRefusesAll               for no program and no depth limit up to 256 are all refused, whatever memory is lent
+--   MakingRefusedWithoutCause  none is refused where the depth limit is at most 256 and no list is too short
+--   MakingRefusesAll           for no program and no depth limit up to 256 are all refused, whatever memory is lent
 use Rattle.std.specs.Prelude.{◌≡◌, ℕ, suc, ◌<◌, ◌≤◌, true, List, [], ◌∷◌, ◌++◌, length, is_err, Some, None, Ok, Err, Option, ◌≢◌}
 use Rattle.words.specs.declared.Operator.TheVariants.{Before}
 use Rattle.grammar.specs.Grammar.{Tree, one}

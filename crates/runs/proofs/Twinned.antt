@@ -112,7 +112,7 @@ module _ (A B : Algebra) {K L : Type 0} (p : K → A.Val) (q : L → B.Val) (c :
   same_last (u ∷ xs) [] x y a z = absurd a
   same_last (u ∷ xs) (v ∷ ys) x y a z = (a.0, same_last xs ys x y a.1 z)
 
-  module _ (laws : Laws A) (twin-laws : Laws B) (program twin : Program) (t : Tree) (tree : TreeOf program.rule t) (twin-tree : TreeOf twin.rule t) (d : ℕ) where
+  module _ (laws : Laws A) (twin_laws : Laws B) (program twin : Program) (t : Tree) (tree : TreeOf program.rule t) (twin_tree : TreeOf twin.rule t) (d : ℕ) where
     -- the accepted moments are carried too
     pub record Twins (xs : List (Exchange K)) (ys : List (Exchange L)) : Type 0 where
       pub answers : AllSame B q c xs ys
@@ -128,7 +128,7 @@ module _ (A B : Algebra) {K L : Type 0} (p : K → A.Val) (q : L → B.Val) (c :
         let last = split.1 in
         let past = twins run ran split.0 in
         let left = looks_back A laws p program t tree d n n' o o' w w' x.event x.reading x.answer g xs run in
-        let right = looks_back B twin-laws q twin t twin-tree d m m' u u' v v' y.event y.reading y.answer k ys ran in
+        let right = looks_back B twin_laws q twin t twin_tree d m m' u u' v v' y.event y.reading y.answer k ys ran in
         let e = same_error x.event y.event x.reading y.reading last.given.event last.given.reading (accepted A p xs) (accepted B q ys) past.moments t d _ _ x.answer y.answer left right last.enough last.enough_carried in
         let z = same_answer x.event y.event x.reading y.reading last.given.event last.given.reading (accepted A p xs) (accepted B q ys) past.moments t d _ _ x.answer y.answer left right e in
         record {
@@ -137,4 +137,4 @@ module _ (A B : Algebra) {K L : Type 0} (p : K → A.Val) (q : L → B.Val) (c :
         }
 
 pub carries_over : (A B : Algebra) → Laws A → Laws B → {K L : Type 0} (p : K → A.Val) (q : L → B.Val) → CarriesOver A B p q
-carries_over A B laws twin-laws p q c s program twin same t tree d n m o u xs ys run ran a = (twins A B p q c s laws twin-laws program twin t tree (subst (λ r. TreeOf r t) (sym same) tree) d run ran a).answers
+carries_over A B laws twin_laws p q c s program twin same t tree d n m o u xs ys run ran a = (twins A B p q c s laws twin_laws program twin t tree (subst (λ r. TreeOf r t) (sym same) tree) d run ran a).answers
