@@ -2,4 +2,4 @@ pub mod Sources
 pub mod Drafting
 pub mod Plans
 pub mod Facts
-pub mod Predicates
+pub mod Listing

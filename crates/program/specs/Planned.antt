@@ -1,12 +1,10 @@
 -- The steps of a rule from its nodes, one after another.
 --   steps_in, numbers_in  the steps and the numbers that a program's parts hold
 --   node_step n a b       the step of a node; a and b are the numbers of its plain and of its routine cell; step_from makes it of its word's form
---   PredicateFits n       the node asks for no predicate beyond `p63`
 --   plains s, routines s  how many plain and how many routine cells a step has
 --   planned a b ns        the steps of the nodes ns, whose first cells have the numbers a and b
 --   asked_by s, asked ss  how many predicates a reading must have for a step and for steps: one more than the greatest number of a `pN`
-use Rattle.std.specs.Prelude.{◌≡◌, ℕ, suc, ◌+◌, ◌<◌, max, List, [], ◌∷◌, length, take}
-use Rattle.words.specs.declared.Operator.TheVariants.{Predicate as predicate_word}
+use Rattle.std.specs.Prelude.{ℕ, suc, ◌+◌, max, List, [], ◌∷◌, length, take}
 use Rattle.grammar.specs.declared.Node.{Node}
 use Rattle.evaluation.specs.declared.Step.{Step}
 use Rattle.evaluation.specs.declared.Step.TheVariants.{True, False, Kind, Predicate, Routine, Not, And, Or, Implies, Before, Rbefore, Once, Ronce, Always, Ralways, Since, Rsince, Rise, Fall}
@@ -28,9 +26,6 @@ step_from (from_two f) k l a b = f l a b
 
 abbrev pub node_step : Node → ℕ → ℕ → Step
 node_step n a b = step_from (form n.word.operator) n.word.number n.left a b
-
-abbrev pub PredicateFits : Node → Type 0
-PredicateFits n = n.word.operator ≡ predicate_word → n.word.number < 64
 
 -- how many plain, how many routine cells a step has: one or none
 abbrev pub plains : Step → ℕ

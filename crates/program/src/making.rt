@@ -1,9 +1,10 @@
 // How a program is made of a rule's nodes, one after another.
 ghost use Rattle.std.specs.Prelude.{◌≡◌, ◌+◌, ◌<◌, [], ◌∷◌, ◌++◌};
+ghost use Rattle.words.specs.Words.{Listed};
 ghost use Rattle.grammar.specs.Limits.{max_words};
 ghost use Rattle.evaluation.specs.Plan.{cell_of, if_plain, if_routine};
 ghost use Rattle.evaluation.specs.Steps.{source};
-ghost use Rattle.program.specs.Planned.{steps_in, numbers_in, node_step, PredicateFits, asked_by, plains, routines};
+ghost use Rattle.program.specs.Planned.{steps_in, numbers_in, node_step, asked_by, plains, routines};
 ghost use Rattle.program.specs.Kept.{in_plain, in_routine};
 
 use crate::draft::Draft;
@@ -23,7 +24,7 @@ enum Kept {
 
 // The step of a node. The next plain and the next routine cell have the numbers `plain` and `routine`.
 pub(crate) fn step_of(node: &Node, plain: u8, routine: u8) -> Step
-    requires { PredicateFits node.now }
+    requires { Listed node.now.word }
     ensures value { result ≡ node_step node.now plain routine }
 {
     match node.word.operator {

@@ -2,11 +2,11 @@ use Rattle.std.proofs.Common.{◌+◌, length, refl, ap, ◌∙◌, arith, lengt
 use Rattle.program.specs.Planned.{planned}
 use Rattle.program.proofs.Drafting.{turn, ended}
 use Rattle.program.proofs.Facts.{runs}
-use Rattle.program.proofs.Predicates.{predicate_fits}
+use Rattle.program.proofs.Listing.{listed}
 use Rattle.program.proofs.program.Program.of.Goals as goal
 
 pub step_of-step-requires : goal.step_of-step-requires
-step_of-step-requires c = predicate_fits c.args.rule.now c.nodes-node-items.result.now c.loop-node.node-index _ c.nodes-node-items.ensures.value c.loop-node-test.true
+step_of-step-requires c = listed c.args.rule.now c.nodes-node-items.result.now c.loop-node.node-index _ c.nodes-node-items.ensures.value c.loop-node-test.true
 
 -- there are as few steps as nodes
 pub push-requires : goal.push-requires
