@@ -3,11 +3,10 @@
 use Rattle.std.proofs.Common.{◌≡◌, ℕ, ◌+◌, ◌-◌, ◌*◌, ◌<◌, ◌≤◌, Bool, true, false, cond, ◌&&◌, leb, List, [], ◌∷◌, length, get_or, drop, Some, None, Option, sym, refl, ap, ◌∙◌, arith}
 use Rattle.std.proofs.lemmas.List.{at_drop_more, at_drop_all}
 use Rattle.std.proofs.lemmas.Bool.{and_parts, and_right, leb-true, leb-false, le-leb, lt-leb, le-ltb, lt-ltb}
-use Rattle.std.specs.Str.Parse.{digits_value, digits_value_after}
+use Rattle.std.specs.Str.Parse.{digits_value_after}
 use Rattle.std.specs.Char.{is_ascii_digit, digit_value as value_of_digit}
 use Rattle.std.specs.Str.{all_ascii_digits}
-use Rattle.words.specs.Lookup.{starts_number, numbered, with_digit, value_up_to}
-use Rattle.words.specs.Words.{within}
+use Rattle.words.specs.Lookup.{with_digit, value_up_to}
 
 abbrev pub read_on : ℕ → ℕ → List ℕ → Option ℕ
 read_on high n [] = Some n
@@ -42,21 +41,9 @@ module _ (high : ℕ) (ds : List ℕ) where
   step : (n i : ℕ) (r : Option ℕ) → i < length ds → with_digit high n (get_or ds i 0) ≡ r → read_on high n (drop i ds) ≡ elim r [ None ↦ None | Some m ↦ read_on high m (drop (i + 1) ds) ]
   step n i r l e = at_drop_more (read_on high n) ds i 0 l ∙ ap (λ (s : Option ℕ). elim s as (λ _. Option ℕ) [ None ↦ None | Some m ↦ read_on high m (drop (i + 1) ds) ]) e
 
-  -- the loop's invariant, at its turns and its ends
-  pub read_more : (n i m : ℕ) → i < length ds → with_digit high n (get_or ds i 0) ≡ Some m → read_on high n (drop i ds) ≡ read_on high 0 ds → read_on high m (drop (i + 1) ds) ≡ read_on high 0 ds
-  read_more n i m l e inv = sym (step n i (Some m) l e) ∙ inv
-
+  -- the loop's invariant, at its two ends
   pub read_stop : (n i : ℕ) → i < length ds → with_digit high n (get_or ds i 0) ≡ None → read_on high n (drop i ds) ≡ read_on high 0 ds → None ≡ value_up_to high ds
   read_stop n i l e inv = sym (step n i None l e) ∙ inv ∙ whole
 
   pub read_all : (n i : ℕ) → length ds ≤ i → read_on high n (drop i ds) ≡ read_on high 0 ds → Some n ≡ value_up_to high ds
   read_all n i l inv = sym (at_drop_all (read_on high n) ds i l) ∙ inv ∙ whole
-
-  -- a number that is read so is the word's, if it is not below the lowest
-  pub read_within : (low n : ℕ) → starts_number ds ≡ true → Some n ≡ value_up_to high ds → low ≤ n → Some n ≡ numbered (within low high) ds
-  read_within low n s e l = go (all_ascii_digits ds) refl (leb (digits_value 10 ds) high) refl e
-    where
-      go : (t : Bool) → all_ascii_digits ds ≡ t → (u : Bool) → leb (digits_value 10 ds) high ≡ u → Some n ≡ cond (t && u) (Some (digits_value 10 ds)) None → Some n ≡ numbered (within low high) ds
-      go true p true q e = let v : n ≡ digits_value 10 ds = cc in rw (s, p, q, le-leb low (digits_value 10 ds) (omega arith)) e
-      go true p false q e = let z : ◌≡◌ {A = ℕ} 0 1 = cc in absurd (omega arith)
-      go false p u q e = let z : ◌≡◌ {A = ℕ} 0 1 = cc in absurd (omega arith)

@@ -6,7 +6,7 @@ ghost use Rattle.words.specs.Words.{text, operands, numbering, bare, within, Nam
 ghost use Rattle.words.specs.Lookup.{starts_number, numbered, value_up_to, with_digit, numbering_of, line, line_of, fit, seek, lookup};
 
 // What a word does in a rule.
-#[derive(Clone, Copy)]
+#[derive(Clone, Copy, PartialEq, Eq, Debug)]
 pub enum Operator {
     And,
     Or,
@@ -34,7 +34,7 @@ pub enum Operator {
 }
 
 // How many units a word takes.
-#[derive(Clone, Copy)]
+#[derive(Clone, Copy, PartialEq, Eq, Debug)]
 pub enum Operands {
     Zero,
     One,
@@ -42,14 +42,14 @@ pub enum Operands {
 }
 
 // The numbers that may follow a numbered word.
-#[derive(Clone, Copy)]
+#[derive(Clone, Copy, PartialEq, Eq, Debug)]
 pub struct Numbers {
     pub lowest: u16,
     pub highest: u16,
 }
 
 // One row of the table.
-#[derive(Clone, Copy)]
+#[derive(Clone, Copy, PartialEq, Eq, Debug)]
 pub struct Row {
     pub text: &'static [u8],
     pub operator: Operator,
@@ -210,7 +210,7 @@ pub const WORDS: [Row; 23] = [
 ];
 
 // A word of a rule: its operator, and the number of `pN` and `rN`, which is 0 for every other word.
-#[derive(Clone, Copy)]
+#[derive(Clone, Copy, PartialEq, Eq, Debug)]
 pub struct Word {
     pub operator: Operator,
     pub number: u16,
@@ -255,7 +255,7 @@ pub fn find(run: &[u8]) -> Option<Word>
     find_in(&WORDS, run)
 }
 
-// The word of the first row that the bytes fit.
+// The word of the first row that the bytes fit. A loop, since `find_map` leaves a longer proof than the invariant's.
 fn find_in(rows: &[Row], run: &[u8]) -> Option<Word>
     ensures value { result ≡ seek (map line_of rows.now) run.now }
 {
@@ -274,9 +274,7 @@ fn find_in(rows: &[Row], run: &[u8]) -> Option<Word>
 fn match_row(row: &Row, run: &[u8]) -> Option<u16>
     ensures value { result ≡ fit (line_of row.now) run.now }
 {
-    let Some(rest) = run.strip_prefix(row.text) else {
-        return None;
-    };
+    let rest = run.strip_prefix(row.text)?;
     number_of(row.numbers, rest)
 }
 
@@ -298,10 +296,7 @@ fn number_in(numbers: Numbers, digits: &[u8]) -> Option<u16>
     if !starts_number(digits) {
         return None;
     }
-    match value_up_to(numbers.highest, digits) {
-        Some(number) if number >= numbers.lowest => Some(number),
-        _ => None,
-    }
+    value_up_to(numbers.highest, digits).filter(|number| *number >= numbers.lowest)
 }
 
 // Whether there is a byte, and no other behind a leading zero.
@@ -321,10 +316,7 @@ fn value_up_to(highest: u16, digits: &[u8]) -> Option<u16>
 {
     let mut number = 0;
     for digit in digits {
-        let Some(longer) = with_digit(highest, number, *digit) else {
-            return None;
-        };
-        number = longer;
+        number = with_digit(highest, number, *digit)?;
     }
     Some(number)
 }
@@ -336,10 +328,8 @@ fn with_digit(highest: u16, number: u16, digit: u8) -> Option<u16>
     let b'0'..=b'9' = digit else {
         return None;
     };
-    let longer = u32::from(number) * 10 + u32::from(digit - b'0');
-    if longer <= u32::from(highest) {
-        Some(longer as u16)
-    } else {
-        None
-    }
+    number
+        .checked_mul(10)?
+        .checked_add(u16::from(digit - b'0'))
+        .filter(|longer| *longer <= highest)
 }
