@@ -4,6 +4,7 @@
 ghost use Rattle.std.specs.Prelude.{◌≡◌};
 ghost use Rattle.grammar.specs.Faults.{number, place};
 
+use refusal::Refusal;
 use words::Word;
 
 // The longest text that is read, in bytes.
@@ -16,7 +17,7 @@ pub const MAX_DEPTH: usize = 16;
 pub const MAX_WORDS: usize = 64;
 
 // A token of a rule text.
-#[derive(Clone, Copy)]
+#[derive(Clone, Copy, PartialEq, Eq, Debug)]
 pub enum Token {
     Open,
     Close,
@@ -24,15 +25,16 @@ pub enum Token {
 }
 
 // A node of a rule: its word and, for a two-sided word, the place of its left operand, else 0.
-// The right or only operand is the node just before.
-#[derive(Clone, Copy)]
+// The right or only operand is the node just before. `left` is no `Option`, since each reader of it has matched the word
+// as two-sided, and would have to match once more.
+#[derive(Clone, Copy, PartialEq, Eq, Debug)]
 pub struct Node {
     pub word: Word,
     pub left: u8,
 }
 
 // Why a text is no rule, and where.
-#[derive(Clone, Copy)]
+#[derive(Clone, Copy, PartialEq, Eq, Debug)]
 pub enum TextFault {
     TooLong,
     BadByte(usize),
@@ -43,34 +45,20 @@ pub enum TextFault {
     TooManyWords(usize),
 }
 
-impl TextFault {
-    // The number that a refusal's line shows.
-    pub fn number(&self) -> u16
-        ensures value { result ≡ number self.now }
-    {
-        match *self {
-            TextFault::TooLong => 11,
-            TextFault::BadByte(_) => 12,
-            TextFault::UnknownWord(_) => 13,
-            TextFault::Misplaced(_) => 14,
-            TextFault::EndsEarly(_) => 15,
-            TextFault::TooDeep(_) => 16,
-            TextFault::TooManyWords(_) => 17,
-        }
-    }
+// What the line of a refusal shows. The place is counted in bytes from 0; for a text that is too long it is the limit.
+impl From<TextFault> for Refusal {
+    ghost from_gives = { λ fault refusal. refusal ≡ record { number = number fault; place = place fault } };
 
-    // The place in the text, counted in bytes from 0; the limit for a text that is too long.
-    pub fn place(&self) -> usize
-        ensures value { result ≡ place self.now }
-    {
-        match *self {
-            TextFault::TooLong => MAX_TEXT,
-            TextFault::BadByte(at) => at,
-            TextFault::UnknownWord(at) => at,
-            TextFault::Misplaced(at) => at,
-            TextFault::EndsEarly(at) => at,
-            TextFault::TooDeep(at) => at,
-            TextFault::TooManyWords(at) => at,
-        }
+    fn from(fault: TextFault) -> Refusal {
+        let (number, place) = match fault {
+            TextFault::TooLong => (11, MAX_TEXT),
+            TextFault::BadByte(at) => (12, at),
+            TextFault::UnknownWord(at) => (13, at),
+            TextFault::Misplaced(at) => (14, at),
+            TextFault::EndsEarly(at) => (15, at),
+            TextFault::TooDeep(at) => (16, at),
+            TextFault::TooManyWords(at) => (17, at),
+        };
+        Refusal { number, place }
     }
 }
