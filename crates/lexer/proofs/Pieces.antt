@@ -1,8 +1,9 @@
 -- The first piece of a text, by the class of its first byte.
-use Rattle.std.proofs.Common.{◌≡◌, ℕ, suc, ◌+◌, ◌<◌, true, false, List, [], ◌∷◌, length, get_or, take, drop, sym, refl, ap, ◌∙◌, ⊎_elim, add-zero, add-one, one-add, arith}
+use Rattle.std.proofs.Common.{◌≡◌, ℕ, suc, ◌+◌, ◌<◌, Bool, true, false, cond, eqb, List, [], ◌∷◌, length, get_or, take, drop, sym, refl, ap, ◌∙◌, ap₂, ⊎_elim, add-zero, add-one, one-add, arith, length-drop}
 use Rattle.std.specs.List.{prefix_len}
-use Rattle.std.proofs.lemmas.List.{drop_more}
-use Rattle.std.proofs.lemmas.Bool.{cond-true, cond-false, cases_Bool}
+use Rattle.std.proofs.lemmas.List.{drop_more, drop-drop, get_or-drop}
+use Rattle.std.proofs.lemmas.List.Sums.{prefix_len_stops}
+use Rattle.std.proofs.lemmas.Bool.{cond-true, cond-false, cases_Bool, eqb-true, eqb-false}
 use Rattle.std.proofs.lemmas.Bool.Decides.{nat_tests}
 use Rattle.grammar.specs.Lexemes.{Class, space, letter, is_letter, class, starts_run, Lexeme, run, Placed, with_byte, on_first, longer, lexemes}
 
@@ -20,8 +21,32 @@ at_class text i k h e =
     ap (lexemes i) (drop_more text i 0 h) ∙ lexemes_cons i (get_or text i 0) (drop (i + 1) text) k e
     ∙ ap (λ j. with_byte k i (get_or text i 0) (drop (i + 1) text) (lexemes j (drop (i + 1) text))) (sym (add-one i))
 
-pub over_space : (text : List ℕ) (i : ℕ) → i < length text → get_or text i 0 ≡ 32 → lexemes (i + 1) (drop (i + 1) text) ≡ lexemes i (drop i text)
-over_space text i h e = sym (at_class text i space h (ap class e))
+-- over spaces, as many as there are
+abbrev pub spaces : List ℕ → ℕ
+spaces bs = prefix_len (λ b. eqb b 32) bs
+
+over_front : (i : ℕ) (bs : List ℕ) → lexemes (i + spaces bs) (drop (spaces bs) bs) ≡ lexemes i bs
+over_front i [] = ap (λ j. lexemes j []) (add-zero i)
+over_front i (b ∷ bs) = go (over_front (suc i) bs) (eqb b 32) refl
+  where
+    go : lexemes (suc i + spaces bs) (drop (spaces bs) bs) ≡ lexemes (suc i) bs → (t : Bool) → eqb b 32 ≡ t → lexemes (i + cond t (1 + spaces bs) 0) (drop (cond t (1 + spaces bs) 0) (b ∷ bs)) ≡ lexemes i (b ∷ bs)
+    go rest true e =
+        let n : i + (1 + spaces bs) ≡ suc i + spaces bs = omega arith in
+        ap₂ (λ j k. lexemes j (drop k (b ∷ bs))) n (one-add (spaces bs)) ∙ rest
+        ∙ sym (lexemes_cons i b bs space (ap class (eqb-true b 32 e)))
+    go rest false e = ap (λ j. lexemes j (b ∷ bs)) (add-zero i)
+
+pub over_spaces : (text : List ℕ) (i end : ℕ) → end ≡ i + spaces (drop i text) → lexemes end (drop end text) ≡ lexemes i (drop i text)
+over_spaces text i end e =
+    let k : ℕ = spaces (drop i text) in
+    ap (λ n. lexemes n (drop n text)) e ∙ ap (lexemes (i + k)) (sym (drop-drop k i text)) ∙ over_front i (drop i text)
+
+pub past_spaces : (text : List ℕ) (i end : ℕ) → end ≡ i + spaces (drop i text) → end < length text → get_or text end 0 ≡ 32 → ⊥
+past_spaces text i end e l =
+    let k : ℕ = spaces (drop i text) in
+    let more : k < length (drop i text) = omega (arith, length-drop i text) in
+    let same : get_or (drop i text) k 0 ≡ get_or text end 0 = get_or-drop i text k 0 ∙ ap (λ n. get_or text n 0) (sym e) in
+    eqb-false (get_or text end 0) 32 (ap (λ b. eqb b 32) (sym same) ∙ prefix_len_stops (λ b. eqb b 32) (drop i text) 0 more)
 
 -- how many letters and digits the bytes begin with
 abbrev pub letters : List ℕ → ℕ

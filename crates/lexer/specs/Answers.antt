@@ -1,23 +1,17 @@
 -- What the lexer answers.
---   fits text             whether the text is short enough
 --   text_of l             its text
 --   pieces l              the pieces that are left of its text
 --   Answers xs r ys       with the pieces xs left, it answers r and leaves the pieces ys
 --   left l, Next xs r ys  the same by the items that the machine takes: a step for the reader's proof
-use Rattle.std.specs.Prelude.{◌≡◌, ℕ, cond, List, [], ◌∷◌, length, drop, Some, None, Ok, Err, Option, Result, nat_le}
-use Rattle.grammar.specs.Limits.{max_text}
+use Rattle.std.specs.Prelude.{◌≡◌, ℕ, List, [], ◌∷◌, drop, Some, None, Ok, Err, Option, Result}
 use Rattle.words.specs.Words.{Names}
 use Rattle.words.specs.declared.Word.{Word}
 use Rattle.grammar.specs.Lexemes.{Lexeme, run, stray, Placed as Piece, lexemes, Means}
 use Rattle.grammar.specs.Machine.{Item, token, bad, items}
 use Rattle.grammar.specs.declared.TextFault.{TextFault}
-use Rattle.grammar.specs.declared.TextFault.TheVariants.{TooLong, BadByte, UnknownWord}
+use Rattle.grammar.specs.declared.TextFault.TheVariants.{BadByte, UnknownWord}
 use Rattle.lexer.specs.declared.lexer.Lexer.{Lexer}
 use Rattle.lexer.specs.declared.Placed.{Placed}
-
--- a text that is longer than a rule text may be is refused
-abbrev pub fits : List ℕ → Result (Unit {0}) TextFault
-fits text = cond (nat_le (length text) max_text) (Ok tt) (Err TooLong)
 
 -- the bytes that it cuts
 abbrev pub text_of : Lexer → List ℕ

@@ -1,10 +1,10 @@
 // Cuts a rule text into tokens, one at a time.
 #![tactic(auto)]
 
-ghost use Rattle.std.specs.Prelude.{◌≡◌, ◌<◌, ◌≤◌, [], ◌∷◌, length, OnErr};
+ghost use Rattle.std.specs.Prelude.{◌≡◌, ◌<◌, ◌≤◌, length, IfOk, IfErr, OnErr};
 ghost use Rattle.grammar.specs.Limits.{max_text};
-ghost use Rattle.grammar.specs.Machine.{items};
-ghost use Rattle.lexer.specs.Answers.{fits, left, pieces, Answers, Next};
+ghost use Rattle.grammar.specs.declared.TextFault.TheVariants.{TooLong as too_long};
+ghost use Rattle.lexer.specs.Answers.{left, pieces, text_of, Answers, Next};
 
 use grammar::{MAX_TEXT, TextFault, Token};
 use scan::{is_letter, run_end, skip_spaces};
@@ -16,30 +16,22 @@ mod scan;
 pub use lexer::Lexer;
 
 // A token and the place of its first byte.
-#[derive(Clone, Copy)]
+#[derive(Clone, Copy, PartialEq, Eq, Debug)]
 pub struct Placed {
     pub place: usize,
     pub token: Token,
 }
 
 impl<'a> Lexer<'a> {
-    // A lexer at the start of the text. A text that is too long is refused, and the lexer beside the refusal stands
-    // over nothing.
-    pub fn new(text: &'a [u8]) -> (Result<(), TextFault>, Lexer<'a>)
-        ensures refused { result.0 ≡ fits text.now }
-        ensures starts { length text.now ≤ max_text → (result.1.at ≡ 0) × (result.1.text.now ≡ text.now) }
-        ensures empty { max_text < length text.now → length result.1.text.now ≡ 0 }
+    // A lexer at the start of the text, if the text is not too long.
+    pub fn new(text: &'a [u8]) -> Result<Lexer<'a>, TextFault>
+        ensures starts { IfOk result (λ lexer. (length text.now ≤ max_text) × (lexer.at ≡ 0) × (text_of lexer ≡ text.now)) }
+        ensures refused { IfErr result (λ fault. (max_text < length text.now) × (fault ≡ too_long)) }
     {
         if text.len() > MAX_TEXT {
-            return (
-                Err(TextFault::TooLong),
-                Lexer {
-                    text: &text[0..0],
-                    at: 0,
-                },
-            );
+            return Err(TextFault::TooLong);
         }
-        (Ok(()), Lexer { text, at: 0 })
+        Ok(Lexer { text, at: 0 })
     }
 
     // How many bytes the text has.
@@ -57,36 +49,21 @@ impl<'a> Lexer<'a> {
         ensures unmoved { OnErr result (self.new.at ≡ self.old.at) }
     {
         let place = skip_spaces(self.text, self.at);
-        if place >= self.text.len() {
+        let Some(first) = self.text.get(place) else {
             self.at = place;
             return Ok(None);
-        }
-        let b = self.text[place];
-        if b == b'(' {
-            self.at = place + 1;
-            return Ok(Some(Placed {
-                place,
-                token: Token::Open,
-            }));
-        }
-        if b == b')' {
-            self.at = place + 1;
-            return Ok(Some(Placed {
-                place,
-                token: Token::Close,
-            }));
-        }
-        if !is_letter(b) {
-            return Err(TextFault::BadByte(place));
-        }
-        let end = run_end(self.text, place);
-        let Some(word) = find(&self.text[place..end]) else {
-            return Err(TextFault::UnknownWord(place));
+        };
+        let (token, end) = match *first {
+            b'(' => (Token::Open, place + 1),
+            b')' => (Token::Close, place + 1),
+            b if is_letter(b) => {
+                let end = run_end(self.text, place);
+                let word = find(&self.text[place..end]).ok_or(TextFault::UnknownWord(place))?;
+                (Token::Word(word), end)
+            }
+            _ => return Err(TextFault::BadByte(place)),
         };
         self.at = end;
-        Ok(Some(Placed {
-            place,
-            token: Token::Word(word),
-        }))
+        Ok(Some(Placed { place, token }))
     }
 }

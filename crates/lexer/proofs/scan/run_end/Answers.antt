@@ -1,19 +1,15 @@
-use Rattle.std.proofs.Common.{sym, ◌∙◌, arith}
-use Rattle.std.proofs.lemmas.List.Sums.{prefix_len-drop_yes, prefix_len-drop_no, prefix_len-drop_all}
+use Rattle.std.proofs.Common.{◌+◌, drop, ap, ◌∙◌, rules, tests, arith, take_all, length-drop}
+use Rattle.std.proofs.lemmas.Iterator.{YieldsList-from_slice}
+use Rattle.std.proofs.lemmas.Iterator.Consumers.{YieldsList-at, count_from_yields_List}
+use Rattle.std.proofs.lemmas.Iterator.Search.{YieldsList-from_take_while}
+use Rattle.std.proofs.lemmas.List.Folds.{length-prefix_len}
 use Rattle.grammar.specs.Lexemes.{is_letter}
 use Rattle.lexer.proofs.scan.run_end.Goals as goal
 
-pub loop-end-preserved : goal.loop-end-preserved
-loop-end-preserved c =
-    let more = prefix_len-drop_yes is_letter c.args.text.now c.loop-end.end 0 c.loop-end-test.true (sym c.is_letter.ensures.value ∙ c.if-is_letter.true) in
-    (omega arith, omega arith, omega (arith, more, c.loop-end.invariant))
-
-pub returns-else-is_letter : goal.returns-else-is_letter
-returns-else-is_letter c =
-    let none = prefix_len-drop_no is_letter c.args.text.now c.loop-end.end 0 c.loop-end-test.true (sym c.is_letter.ensures.value ∙ c.if-is_letter.false) in
-    record { within = (omega arith, omega arith); value = omega (arith, none, c.loop-end.invariant) }
-
-pub returns-after-loop-end : goal.returns-after-loop-end
-returns-after-loop-end c =
-    let none = prefix_len-drop_all is_letter c.args.text.now c.loop-end.end c.loop-end-test.false in
-    record { within = (omega arith, omega arith); value = omega (arith, none, c.loop-end.invariant) }
+pub returns-clause-value : goal.returns-clause-value
+returns-clause-value c =
+    let rest = drop c.args.at c.args.text.now in
+    ap (λ n. c.args.at + n)
+    (count_from_yields_List c.take_while.result c.count.result c.count.ensures.ran
+    (YieldsList-from_take_while _ is_letter (YieldsList-at c.take_while.ensures.source (YieldsList-from_slice rest (c.iter.ensures.rest ∙ take_all _ rest (omega (arith, length-drop c.args.at c.args.text.now))))) c.take_while.ensures.closure c.take_while.ensures.done (λ x r q k. search (rules, tests)))
+    ∙ length-prefix_len is_letter rest)

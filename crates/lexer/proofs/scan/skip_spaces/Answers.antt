@@ -1,7 +1,14 @@
-use Rattle.std.proofs.Common.{◌∙◌, arith}
-use Rattle.lexer.proofs.Pieces.{over_space}
+use Rattle.std.proofs.Common.{◌+◌, eqb, drop, ap, ◌∙◌, rules, tests, arith, take_all, length-drop}
+use Rattle.std.proofs.lemmas.Iterator.{YieldsList-from_slice}
+use Rattle.std.proofs.lemmas.Iterator.Consumers.{YieldsList-at, count_from_yields_List}
+use Rattle.std.proofs.lemmas.Iterator.Search.{YieldsList-from_take_while}
+use Rattle.std.proofs.lemmas.List.Folds.{length-prefix_len}
 use Rattle.lexer.proofs.scan.skip_spaces.Goals as goal
 
-pub loop-i-preserved : goal.loop-i-preserved
-loop-i-preserved c =
-    (omega arith, omega arith, over_space c.args.text.now c.loop-i.i c.loop-i-test.true c.if-text-i-eq32.true ∙ c.loop-i.invariant.2)
+pub returns-clause-value : goal.returns-clause-value
+returns-clause-value c =
+    let rest = drop c.args.at c.args.text.now in
+    ap (λ n. c.args.at + n)
+    (count_from_yields_List c.take_while.result c.count.result c.count.ensures.ran
+    (YieldsList-from_take_while _ (λ b. eqb b 32) (YieldsList-at c.take_while.ensures.source (YieldsList-from_slice rest (c.iter.ensures.rest ∙ take_all _ rest (omega (arith, length-drop c.args.at c.args.text.now))))) c.take_while.ensures.closure c.take_while.ensures.done (λ x r q k. search (rules, tests)))
+    ∙ length-prefix_len (λ b. eqb b 32) rest)
