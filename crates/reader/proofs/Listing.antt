@@ -1,5 +1,5 @@
 -- That the words of accepted texts are words of the language, with the numbers that they may have.
-use Rattle.std.proofs.Common.{◌≡◌, ℕ, zero, suc, ◌+◌, ◌-◌, ◌<◌, List, [], ◌∷◌, ◌++◌, length, get_or, arith}
+use Rattle.std.proofs.Common.{ℕ, zero, suc, ◌+◌, ◌-◌, ◌<◌, List, [], ◌∷◌, ◌++◌, length, get_or, arith}
 use Rattle.words.specs.Words.{Listed}
 use Rattle.grammar.specs.Grammar.{Tree, leaf, one, two, Part, Reads, a_leaf, one_sided, in_parens, a_unit, two_sided}
 use Rattle.grammar.specs.Lexemes.{Placed, means_open, means_close, means_word, Spells, none, more}

@@ -1,5 +1,5 @@
 -- What each way through the reader's functions comes to.
-use Rattle.std.proofs.Common.{◌≡◌, ℕ, ◌+◌, ◌-◌, ◌<◌, ◌≤◌, List, [], ◌∷◌, ◌++◌, take, Some, None, Ok, Err, Option, Result, sym, refl, ap, ◌∙◌, subst, ap₂, add-one, arith}
+use Rattle.std.proofs.Common.{◌≡◌, ℕ, ◌+◌, ◌-◌, ◌<◌, ◌≤◌, List, [], ◌∷◌, ◌++◌, length, Some, None, Ok, Err, Option, Result, sym, refl, ap, ◌∙◌, subst, ap₂, add-one, arith, length-append}
 use Rattle.std.proofs.lemmas.List.{append_assoc}
 use Rattle.words.specs.declared.Word.{Word}
 use Rattle.words.specs.declared.Operands.TheVariants.{Zero, One, Two}
@@ -11,11 +11,13 @@ use Rattle.grammar.specs.declared.Token.{Token}
 use Rattle.grammar.specs.declared.Token.TheVariants.{Open, Close, Word as word}
 use Rattle.grammar.specs.declared.TextFault.{TextFault}
 use Rattle.grammar.specs.declared.TextFault.TheVariants.{Misplaced, TooDeep, TooManyWords}
-use Rattle.lexer.specs.Answers.{Next}
+use Rattle.fixed_vec.specs.Elements.{elements}
+use Rattle.lexer.specs.Answers.{Next, left, text_of}
+use Rattle.lexer.specs.declared.lexer.Lexer.{Lexer}
 use Rattle.lexer.specs.declared.Placed.{Placed}
-use Rattle.reader.specs.Drafts.{drafted}
-use Rattle.reader.specs.Reading.{Grown, behind, ReadRule}
+use Rattle.reader.specs.Reading.{Grown, behind, bytes, SameText, ReadUnit, ReadRule}
 use Rattle.reader.specs.declared.draft.Draft.{Draft}
+use Rattle.reader.specs.declared.parser.Parser.{Parser}
 use Rattle.reader.proofs.Steps.{moves, misplaced, too_deep, too_many, at_end, at_bad, done_depth, want_open, want_close, want_word_lem, inside_depth, under_depth, first_depth, second_depth, first_done, had_two, NoTwo, as_full, full_close, NoClose, full_other}
 
 -- the lexer's answers, once it is known which one came
@@ -24,6 +26,19 @@ next_none xs ys e h = (subst (λ r. Next xs (Ok r) ys) e h).0
 
 pub next_some : (xs ys : List Item) {o : Option Placed} {p : Placed} → o ≡ Some p → Next xs (Ok o) ys → xs ≡ token p.place p.token ∷ ys
 next_some xs ys e h = subst (λ r. Next xs (Ok r) ys) e h
+
+-- a unit whose first token the lexer has passed already
+pub read_behind : (deep : ℕ) (l m : Lexer) (d : Draft) (xs : List Item) (r : Result (Unit {0}) TextFault) (q : Parser) → left l ≡ xs → text_of m ≡ text_of l → ReadUnit deep xs (record { lexer = m; draft = d }) r q → ReadUnit deep (left l) (record { lexer = l; draft = d }) r q
+read_behind deep l m d xs (Ok u) q e s rd = (
+  rd.0,
+  (λ K h.
+      ap (runs (length (text_of l)) (want K) d.words) e
+      ∙ subst (λ t. runs (length t) (want K) d.words xs ≡ runs (length t) (unit_done K rd.0) q.draft.words (left q.lexer)) s (rd.1 K h)),
+  rd.2,
+  rd.3 ∙ s,
+)
+read_behind deep l m d xs (Err f) q e s rd =
+    λ K h. ap (runs (length (text_of l)) (want K) d.words) e ∙ subst (λ t. runs (length t) (want K) d.words xs ≡ refused f) s (rd K h)
 
 -- a rule in parentheses
 pub paren_deep : (n p k deep : ℕ) (K : Context unit) (xs : List Item) → depth K + deep ≡ max_depth → deep ≡ 0 → runs n (want K) k (token p Open ∷ xs) ≡ refused (TooDeep p)
@@ -108,10 +123,10 @@ pub alone_by_word : (n k : ℕ) (t : Tree) (K : Context rule) (p : Placed) (w : 
 alone_by_word n k t K p w ys e h = as_full n p.place k t K p.token ys (subst NoTwo (sym e) h)
 
 -- a rule whose last unit stands, by the answer on the token behind it
-pub rule_by_next : (n deep : ℕ) (xs zs ys : List Item) (d e : Draft) (t : Tree) (r : Result (Option Placed) TextFault) → ((K : Context rule) → depth K + deep ≡ max_depth → runs n (want (first K)) d.words xs ≡ runs n (full t K) e.words zs) → Grown d e t → Next zs r ys → ReadRule n deep xs d r ys e
-rule_by_next n deep xs zs ys d e t (Ok None) go g a = (t, (λ K h. go K h ∙ ap (runs n (full t K) e.words) a.0 ∙ at_end n e.words (full t K)), g)
-rule_by_next n deep xs zs ys d e t (Ok (Some p)) go g a = (t, (λ K h. go K h ∙ ap (runs n (full t K) e.words) a), g)
-rule_by_next n deep xs zs ys d e t (Err f) go g a = λ K h. go K h ∙ ap (runs n (full t K) e.words) a.1 ∙ at_bad n e.words (full t K) f a.0
+pub rule_by_next : (deep : ℕ) (xs zs : List Item) (p q : Parser) (t : Tree) (r : Result (Option Placed) TextFault) → ((K : Context rule) → depth K + deep ≡ max_depth → runs (bytes p) (want (first K)) p.draft.words xs ≡ runs (bytes p) (full t K) q.draft.words zs) → Grown p.draft q.draft t → SameText p q → Next zs r (left q.lexer) → ReadRule deep xs p r q
+rule_by_next deep xs zs p q t (Ok None) go g s a = (t, (λ K h. go K h ∙ ap (runs (bytes p) (full t K) q.draft.words) a.0 ∙ at_end (bytes p) q.draft.words (full t K)), g, s)
+rule_by_next deep xs zs p q t (Ok (Some x)) go g s a = (t, (λ K h. go K h ∙ ap (runs (bytes p) (full t K) q.draft.words) a), g, s)
+rule_by_next deep xs zs p q t (Err f) go g s a = λ K h. go K h ∙ ap (runs (bytes p) (full t K) q.draft.words) a.1 ∙ at_bad (bytes p) q.draft.words (full t K) f a.0
 
 -- how a draft grows
 pub size_some : (t : Tree) → 1 ≤ size t
@@ -121,8 +136,7 @@ size_some (two w l r) = omega arith
 
 -- the node of a word behind those of its operands
 pub record Pushed (m e : Draft) (w : Word) (left : ℕ) : Type 0 where
-  pub pushed : drafted e ≡ drafted m ++ node w left ∷ []
-  pub len : e.nodes.len ≡ m.nodes.len + 1
+  pub pushed : elements e.nodes ≡ elements m.nodes ++ node w left ∷ []
   pub words : e.words ≡ m.words
 
 -- one word more is counted
@@ -130,37 +144,38 @@ pub record Counted (d m : Draft) : Type 0 where
   pub same : m.nodes ≡ d.nodes
   pub words : m.words ≡ d.words + 1
 
-same_drafted : {d m : Draft} → Counted d m → drafted m ≡ drafted d
-same_drafted c = ap (λ x. take x.len x.items) c.same
+same_held : {d m : Draft} → Counted d m → elements m.nodes ≡ elements d.nodes
+same_held c = ap elements c.same
 
-same_len : {d m : Draft} → Counted d m → m.nodes.len ≡ d.nodes.len
-same_len c = ap (λ x. x.len) c.same
+pushed_len : {m e : Draft} {w : Word} {left : ℕ} → Pushed m e w left → length (elements e.nodes) ≡ length (elements m.nodes) + 1
+pushed_len {m} {w = w} {left = left} p = ap length p.pushed ∙ length-append (elements m.nodes) (node w left ∷ [])
 
 pub grown_leaf : {d m e : Draft} {w : Word} → Counted d m → Pushed m e w 0 → Grown d e (leaf w)
 unfolding nodes
 grown_leaf {d} {m} {e} {w} c p =
-    record { added = p.pushed ∙ ap (λ x. x ++ node w 0 ∷ []) (same_drafted c); len = p.len ∙ ap (λ x. x + 1) (same_len c); words = p.words ∙ c.words }
+    record { added = p.pushed ∙ ap (λ x. x ++ node w 0 ∷ []) (same_held c); len = pushed_len p ∙ ap (λ x. length x + 1) (same_held c); words = p.words ∙ c.words }
 
 pub grown_one : {d m u e : Draft} {w : Word} {t : Tree} → Counted d m → Grown m u t → Pushed u e w 0 → Grown d e (one w t)
 unfolding nodes
 grown_one {d} {m} {u} {e} {w} {t} c g p =
     record {
-      added = p.pushed ∙ ap (λ x. x ++ node w 0 ∷ []) (g.added ∙ ap₂ (λ x n. x ++ nodes n t) (same_drafted c) (same_len c)) ∙ append_assoc (drafted d) (nodes d.nodes.len t) (node w 0 ∷ []);
-      len = omega (arith, p.len, g.len, same_len c);
+      added = p.pushed ∙ ap (λ x. x ++ node w 0 ∷ []) (g.added ∙ ap (λ x. x ++ nodes (length x) t) (same_held c)) ∙ append_assoc (elements d.nodes) (nodes (length (elements d.nodes)) t) (node w 0 ∷ []);
+      len = omega (arith, pushed_len p, g.len, ap length (same_held c));
       words = omega (arith, p.words, g.words, c.words);
     }
 
-pub grown_two : {d l m u e : Draft} {w : Word} {t s : Tree} {left : ℕ} → Grown d l t → Counted l m → Grown m u s → Pushed u e w left → left ≡ l.nodes.len - 1 → Grown d e (two w t s)
+pub grown_two : {d l m u e : Draft} {w : Word} {t s : Tree} {left : ℕ} → Grown d l t → Counted l m → Grown m u s → Pushed u e w left → left ≡ length (elements l.nodes) - 1 → Grown d e (two w t s)
 unfolding nodes
 grown_two {d} {l} {m} {u} {e} {w} {t} {s} {left} f c g p z =
-    let at : m.nodes.len ≡ d.nodes.len + size t = same_len c ∙ f.len in
-    let place : left ≡ d.nodes.len + size t - 1 = z ∙ ap (λ n. n - 1) f.len in
-    let before : drafted m ≡ drafted d ++ nodes d.nodes.len t = same_drafted c ∙ f.added in
+    let k : ℕ = length (elements d.nodes) in
+    let at : length (elements m.nodes) ≡ k + size t = ap length (same_held c) ∙ f.len in
+    let place : left ≡ k + size t - 1 = z ∙ ap (λ n. n - 1) f.len in
+    let before : elements m.nodes ≡ elements d.nodes ++ nodes k t = same_held c ∙ f.added in
     record {
       added =
-          p.pushed ∙ ap₂ (λ x k. x ++ node w k ∷ []) (g.added ∙ ap₂ (λ x n. x ++ nodes n s) before at) place
-          ∙ append_assoc (drafted d ++ nodes d.nodes.len t) (nodes (d.nodes.len + size t) s) (node w (d.nodes.len + size t - 1) ∷ [])
-          ∙ append_assoc (drafted d) (nodes d.nodes.len t) (nodes (d.nodes.len + size t) s ++ node w (d.nodes.len + size t - 1) ∷ []);
-      len = omega (arith, p.len, g.len, at);
+          p.pushed ∙ ap₂ (λ x i. x ++ node w i ∷ []) (g.added ∙ ap₂ (λ x n. x ++ nodes n s) before at) place
+          ∙ append_assoc (elements d.nodes ++ nodes k t) (nodes (k + size t) s) (node w (k + size t - 1) ∷ [])
+          ∙ append_assoc (elements d.nodes) (nodes k t) (nodes (k + size t) s ++ node w (k + size t - 1) ∷ []);
+      len = omega (arith, pushed_len p, g.len, at);
       words = omega (arith, p.words, g.words, c.words, f.words);
     }

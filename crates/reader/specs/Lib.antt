@@ -1,4 +1,3 @@
 pub mod Rules
-pub mod Drafts
 pub mod Reading
 pub mod Promise

@@ -1,24 +1,25 @@
 // Reads a rule text into a rule.
 #![tactic(auto)]
 
-ghost use Rattle.std.specs.Prelude.{◌≡◌, ◌+◌, ◌<◌, ◌≤◌, [], ◌∷◌, ◌++◌, length, Err as failed, MatchResult};
+ghost use Rattle.std.specs.Prelude.{◌≡◌, ◌+◌, ◌<◌, [], ◌∷◌, ◌++◌, length, MatchResult};
+ghost use Rattle.fixed_vec.specs.Elements.{elements};
 ghost use Rattle.grammar.specs.Limits.{max_words};
 ghost use Rattle.grammar.specs.Nodes.{node};
 ghost use Rattle.grammar.specs.declared.TextFault.TheVariants.{TooManyWords as too_many_words};
 ghost use Rattle.grammar.specs.Grammar.{Tree};
-ghost use Rattle.grammar.specs.Refusals.{Accepts, Refused};
-ghost use Rattle.reader.specs.Rules.{nodes_in, Holds};
+ghost use Rattle.grammar.specs.Refusals.{Accepts};
+ghost use Rattle.reader.specs.Rules.{nodes_in};
 ghost use Rattle.reader.specs.Promise.{Reading, SomeTextAccepted, SomeTextNotTrue};
-ghost use Rattle.reader.specs.Drafts.{drafted};
 
 mod draft;
-mod parse;
+mod parser;
 mod rule;
 
 use draft::Draft;
+use fixed_vec::FixedVec;
 use grammar::{MAX_DEPTH, MAX_WORDS, Node, TextFault};
 use lexer::Lexer;
-use rule::Nodes;
+use parser::Parser;
 pub use rule::Rule;
 use words::{Operator, Word};
 
@@ -27,14 +28,14 @@ impl Rule {
     pub fn nodes(&self) -> &[Node]
         ensures value { result.now ≡ nodes_in self.now }
     {
-        &self.nodes.items[0..self.nodes.len]
+        self.nodes.as_slice()
     }
 }
 
 impl Draft {
     // Nothing read yet.
     pub(crate) fn new() -> Draft
-        ensures value { (result.nodes.len ≡ 0) × (result.words ≡ 0) }
+        ensures value { (elements result.nodes ≡ []) × (result.words ≡ 0) }
     {
         let blank = Node {
             word: Word {
@@ -44,10 +45,7 @@ impl Draft {
             left: 0,
         };
         Draft {
-            nodes: Nodes {
-                items: [blank; MAX_WORDS],
-                len: 0,
-            },
+            nodes: FixedVec::new(blank),
             words: 0,
         }
     }
@@ -66,29 +64,12 @@ impl Draft {
 
     // The node of a word whose operands stand already.
     pub(crate) fn push(&mut self, word: Word, left: u8)
-        requires { self.old.nodes.len < self.old.words }
-        ensures pushed { drafted self.new ≡ drafted self.old ++ node word left ∷ [] }
-        ensures len { self.new.nodes.len ≡ self.old.nodes.len + 1 }
+        requires { length (elements self.old.nodes) < self.old.words }
+        ensures pushed { elements self.new.nodes ≡ elements self.old.nodes ++ node word left ∷ [] }
         ensures words { self.new.words ≡ self.old.words }
     {
-        let at = self.nodes.len;
-        self.nodes.items[at] = Node { word, left };
-        self.nodes.len = at + 1;
+        self.nodes.push(Node { word, left }).unwrap();
     }
-}
-
-// The nodes of a rule text.
-fn read_nodes(text: &[u8]) -> Result<Nodes, TextFault>
-    ensures outcome { MatchResult result (λ read. (read.len ≤ max_words) × ((t : Tree) × Accepts text.now t × Holds read t)) (λ f. Refused text.now f) }
-    ensures accepts { (t : Tree) → Accepts text.now t → MatchResult result (λ read. Holds read t) (λ _. ⊥) }
-    ensures refuses { (f : TextFault) → Refused text.now f → result ≡ failed f }
-{
-    let (fits, mut lexer) = Lexer::new(text);
-    fits?;
-    let mut draft = Draft::new();
-    let next = parse::rule(&mut lexer, &mut draft, MAX_DEPTH)?;
-    parse::nothing_behind(next)?;
-    Ok(draft.nodes)
 }
 
 // Reads a rule text: the rule, or why and where the text is refused.
@@ -96,16 +77,20 @@ pub fn read(text: &[u8]) -> Result<Rule, TextFault>
     ensures reading { Reading text.now result }
     ensures one_reading { (t u : Tree) → Accepts text.now t → Accepts text.now u → t ≡ u }
 {
-    match read_nodes(text) {
-        Ok(nodes) => Ok(Rule { nodes }),
-        Err(fault) => Err(fault),
+    let mut parser = Parser {
+        lexer: Lexer::new(text)?,
+        draft: Draft::new(),
+    };
+    match parser.rule(MAX_DEPTH)? {
+        None => Ok(Rule {
+            nodes: parser.draft.nodes,
+        }),
+        Some(next) => Err(TextFault::Misplaced(next.place)),
     }
 }
 
 // What the promise of `read` shuts out: a reader that refuses every text, and one that makes `true` of each.
-pub fn reading_stands() -> u8
+pub fn reading_stands()
     ensures not_all_refused { SomeTextAccepted }
     ensures not_all_true { SomeTextNotTrue }
-{
-    0
-}
+{}

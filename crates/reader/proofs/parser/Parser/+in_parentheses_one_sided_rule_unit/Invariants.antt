@@ -1,5 +1,5 @@
 use Rattle.std.proofs.Common.{◌+◌, ◌*◌}
-use Rattle.reader.proofs.parse.+in_parentheses_one_sided_rule_unit.Given as goal
+use Rattle.reader.proofs.parser.Parser.+in_parentheses_one_sided_rule_unit.Given as goal
 
 abbrev pub decreases-in_parentheses : goal.decreases-in_parentheses
 decreases-in_parentheses l = 3 * l.deep

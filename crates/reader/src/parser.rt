@@ -1,0 +1,112 @@
+// A text that is being read: what is left of it, and the rule so far. The functions for a rule and for a unit call each
+// other. Each is told how many more levels a token may lie deep, and leaves the nodes of what it has read in the draft.
+ghost use Rattle.std.specs.Prelude.{◌≡◌, ◌+◌, ◌∷◌, MatchResult};
+ghost use Rattle.words.specs.declared.Operands.TheVariants.{Zero, One};
+ghost use Rattle.grammar.specs.Grammar.{takes};
+ghost use Rattle.grammar.specs.Machine.{token};
+ghost use Rattle.grammar.specs.declared.Token.TheVariants.{Open, Word as word_token};
+ghost use Rattle.grammar.specs.declared.TextFault.TheVariants.{TooDeep as too_deep};
+ghost use Rattle.lexer.specs.Answers.{left};
+
+use crate::draft::Draft;
+use grammar::{TextFault, Token};
+use lexer::{Lexer, Placed};
+use words::{Operands, Word, operands_of};
+
+#[derive(Drop)]
+pub(crate) struct Parser<'a> {
+    pub(crate) lexer: Lexer<'a>,
+    pub(crate) draft: Draft,
+}
+
+impl<'a> Parser<'a> {
+    ghost use Rattle.std.specs.Prelude.{ℕ};
+    ghost use Rattle.reader.specs.Reading.{ReadUnit, ReadRule};
+
+    // A rule: a unit, or two units and a two-sided word between them. It has read the token behind the rule, too, and
+    // hands it back.
+    #[cycle(in_parentheses_one_sided_rule_unit)]
+    pub(crate) fn rule(&mut self, deep: usize) -> Result<Option<Placed>, TextFault>
+        ensures read { ReadRule deep (left self.old.lexer) self.old result self.new }
+    {
+        self.unit(deep)?;
+        let operand = self.draft.nodes.as_slice().len() - 1;
+        let Some(next) = self.lexer.next()? else {
+            return Ok(None);
+        };
+        let Token::Word(word) = next.token else {
+            return Ok(Some(next));
+        };
+        let Operands::Two = operands_of(word.operator) else {
+            return Ok(Some(next));
+        };
+        self.draft.count(next.place)?;
+        self.unit(deep)?;
+        self.draft.push(word, operand as u8);
+        self.lexer.next()
+    }
+
+    // A unit: a rule in parentheses, a one-sided word and a unit, or a leaf.
+    #[cycle(in_parentheses_one_sided_rule_unit)]
+    pub(crate) fn unit(&mut self, deep: usize) -> Result<(), TextFault>
+        ensures read { ReadUnit deep (left self.old.lexer) self.old result self.new }
+    {
+        let Some(Placed { place, token }) = self.lexer.next()? else {
+            return Err(TextFault::EndsEarly(self.lexer.text_len()));
+        };
+        match token {
+            Token::Open => self.in_parentheses(deep, place),
+            Token::Close => Err(TextFault::Misplaced(place)),
+            Token::Word(word) => match operands_of(word.operator) {
+                Operands::Zero => self.leaf(word, place),
+                Operands::One => self.one_sided(deep, word, place),
+                Operands::Two => Err(TextFault::Misplaced(place)),
+            },
+        }
+    }
+
+    // A leaf, at `place`.
+    fn leaf(&mut self, word: Word, place: usize) -> Result<(), TextFault>
+        requires { takes word ≡ Zero }
+        ensures read { (deep : ℕ) → ReadUnit deep (token place (word_token word) ∷ left self.old.lexer) self.old result self.new }
+    {
+        self.draft.count(place)?;
+        self.draft.push(word, 0);
+        Ok(())
+    }
+
+    // The unit of a one-sided word, which stands at `place`.
+    #[cycle(in_parentheses_one_sided_rule_unit)]
+    fn one_sided(&mut self, deep: usize, word: Word, place: usize) -> Result<(), TextFault>
+        requires { takes word ≡ One }
+        ensures read { ReadUnit deep (token place (word_token word) ∷ left self.old.lexer) self.old result self.new }
+    {
+        let below = deeper(deep, place)?;
+        self.draft.count(place)?;
+        self.unit(below)?;
+        self.draft.push(word, 0);
+        Ok(())
+    }
+
+    // The rule and the closing parenthesis behind an opening one, which stands at `place`.
+    #[cycle(in_parentheses_one_sided_rule_unit)]
+    fn in_parentheses(&mut self, deep: usize, place: usize) -> Result<(), TextFault>
+        ensures read { ReadUnit deep (token place Open ∷ left self.old.lexer) self.old result self.new }
+    {
+        let below = deeper(deep, place)?;
+        let Some(next) = self.rule(below)? else {
+            return Err(TextFault::EndsEarly(self.lexer.text_len()));
+        };
+        let Token::Close = next.token else {
+            return Err(TextFault::Misplaced(next.place));
+        };
+        Ok(())
+    }
+}
+
+// The levels that are left behind a token at `place` that opens one more.
+fn deeper(deep: usize, place: usize) -> Result<usize, TextFault>
+    ensures level { MatchResult result (λ below. below + 1 ≡ deep) (λ f. (f ≡ too_deep place) × (deep ≡ 0)) }
+{
+    deep.checked_sub(1).ok_or(TextFault::TooDeep(place))
+}
