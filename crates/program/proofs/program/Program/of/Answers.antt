@@ -12,7 +12,7 @@ step_of-step-requires c = listed c.args.rule.now c.nodes-node-items.result.now c
 pub push-requires : goal.push-requires
 push-requires c =
     let r = c.args.rule.now in
-    omega (arith, c.loop-node.invariant.0, c.loop-node-test.true, ap length c.nodes-node-items.ensures.value, length-take r.nodes.len r.nodes.items, r.within)
+    omega (arith, c.loop-node.invariant.0, c.loop-node-test.true, ap length c.nodes-node-items.ensures.value, length-take r.nodes.len r.nodes.items, r.nodes.within)
 
 pub loop-node-preserved : goal.loop-node-preserved
 loop-node-preserved c =
