@@ -21,11 +21,11 @@ impl Margin {
     pub fn held(self) -> i16
         ensures value { result ≡ (held self.0).value }
     {
-        self.0.min(Margin::END).max(-Margin::END)
+        self.0.clamp(-Margin::END, Margin::END)
     }
 }
 
-// Margins are compared by what they mean.
+// Margins are compared by what they mean; a derive would compare the numbers that lists keep.
 impl PartialEq for Margin {
     ghost eq = { on (λ x. (held x.0).value) int_eq };
 

@@ -4,7 +4,8 @@ ghost use Rattle.kinds.specs.ThreeLaws.{three_laws};
 
 use crate::kind::TruthKind;
 
-#[derive(Clone, Copy, PartialEq, Eq, Debug)]
+// Each is below those after it.
+#[derive(Clone, Copy, PartialEq, Eq, PartialOrd, Ord, Debug)]
 pub enum Three {
     No,
     Unknown,
@@ -35,18 +36,10 @@ impl TruthKind for Three {
     }
 
     fn and(self, other: Three) -> Three {
-        match (self, other) {
-            (Three::No, _) | (_, Three::No) => Three::No,
-            (Three::Yes, _) => other,
-            (_, _) => self,
-        }
+        self.min(other)
     }
 
     fn or(self, other: Three) -> Three {
-        match (self, other) {
-            (Three::Yes, _) | (_, Three::Yes) => Three::Yes,
-            (Three::No, _) => other,
-            (_, _) => self,
-        }
+        self.max(other)
     }
 }

@@ -1,13 +1,24 @@
 // The two-valued kind: no and yes.
 ghost use Rattle.kinds.specs.Two.{two, two_means};
 ghost use Rattle.kinds.specs.TwoLaws.{two_laws};
+ghost use Rattle.std.specs.Prelude.{◌≡◌};
 
 use crate::kind::TruthKind;
 
-#[derive(Clone, Copy, PartialEq, Eq, Debug)]
+// No is below yes.
+#[derive(Clone, Copy, PartialEq, Eq, PartialOrd, Ord, Debug)]
 pub enum Two {
     No,
     Yes,
+}
+
+// Yes for true, as a test or a bit gives it.
+impl From<bool> for Two {
+    ghost from_gives = { λ b x. two_means x ≡ b };
+
+    fn from(test: bool) -> Two {
+        if test { Two::Yes } else { Two::No }
+    }
 }
 
 impl TruthKind for Two {
@@ -33,16 +44,10 @@ impl TruthKind for Two {
     }
 
     fn and(self, other: Two) -> Two {
-        match self {
-            Two::No => Two::No,
-            Two::Yes => other,
-        }
+        self.min(other)
     }
 
     fn or(self, other: Two) -> Two {
-        match self {
-            Two::No => other,
-            Two::Yes => Two::Yes,
-        }
+        self.max(other)
     }
 }
