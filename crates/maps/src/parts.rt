@@ -1,4 +1,5 @@
-// Each part of a pair.
+// Each part of a pair. What the two maps share is `CarryingMap` itself: one map over either part would need a trait of parts that
+// asks the same of each, and would be longer.
 ghost use Rattle.std.specs.Prelude.{refl};
 
 use crate::map::CarryingMap;

@@ -6,6 +6,7 @@ ghost use Rattle.maps.specs.Signs.{sign_not, sign_lesser, sign_greater};
 
 use crate::map::CarryingMap;
 use kinds::{Margin, Three};
+use std::cmp::Ordering;
 
 #[derive(Clone, Copy)]
 pub struct Sign;
@@ -31,13 +32,10 @@ impl CarryingMap for Sign {
         } };
 
     fn carry(&self, value: Margin) -> Three {
-        let number = value.held();
-        if number < 0 {
-            Three::No
-        } else if number == 0 {
-            Three::Unknown
-        } else {
-            Three::Yes
+        match value.held().cmp(&0) {
+            Ordering::Less => Three::No,
+            Ordering::Equal => Three::Unknown,
+            Ordering::Greater => Three::Yes,
         }
     }
 }

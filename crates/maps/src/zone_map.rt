@@ -13,6 +13,7 @@ impl AtZone {
     pub fn new(zone: u8) -> Option<AtZone>
         ensures value { Asks zone result }
     {
+        // `then` would ask for the same test again, as a clause of its closure.
         if zone < 64 {
             Some(AtZone { zone })
         } else {
@@ -37,10 +38,6 @@ impl CarryingMap for AtZone {
         } };
 
     fn carry(&self, value: Zones) -> Two {
-        if (value.0 >> self.zone) & 1 == 1 {
-            Two::Yes
-        } else {
-            Two::No
-        }
+        Two::from((value.0 >> self.zone) & 1 == 1)
     }
 }
