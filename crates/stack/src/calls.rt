@@ -1,6 +1,6 @@
 // Pushing and popping, one element or several.
-ghost use Rattle.std.specs.Prelude.{◌≡◌};
-ghost use Rattle.stack.specs.Calls.{Pushed, Popped, PushedAll, PoppedAll};
+ghost use Rattle.std.specs.Prelude.{◌≡◌, ◌≤◌, ◌-◌, take, drop};
+ghost use Rattle.stack.specs.Calls.{places, Pushed, Popped, PushedAll, PoppedAll};
 
 use super::{Full, Short, Stack};
 
@@ -38,11 +38,18 @@ impl<'a, T: Copy> Stack<'a, T> {
         if self.items.len() - self.len < xs.len() {
             return Err(Full);
         }
-        for (i, x) in xs.iter().enumerate() {
-            self.items[self.len + i] = *x;
-        }
-        self.len += xs.len();
+        let end = self.len + xs.len();
+        self.items[self.len..end].copy_from_slice(xs);
+        self.len = end;
         Ok(())
+    }
+
+    // The topmost elements, the lowest of them first.
+    fn top(&self, count: usize) -> &[T]
+        requires { count ≤ self.now.len }
+        ensures { result.now ≡ take count (drop (self.now.len - count) (places self.now)) }
+    {
+        &self.items[self.len - count..self.len]
     }
 
     // Takes as many elements off the top as `out` has places, and leaves them in `out` in the order in which they
@@ -54,10 +61,9 @@ impl<'a, T: Copy> Stack<'a, T> {
         if self.len < out.len() {
             return Err(Short);
         }
+        let top = self.top(out.len());
+        out.copy_from_slice(top);
         self.len -= out.len();
-        for (i, x) in out.iter_mut().enumerate() {
-            *x = self.items[self.len + i];
-        }
         Ok(())
     }
 }

@@ -6,6 +6,7 @@ mod calls;
 ghost use Rattle.std.specs.Prelude.{◌≡◌, ◌≤◌, min, length};
 
 // The elements stand in the slice's first `len` places, the top last; the places above are free.
+// Each call says for itself that the lent slice stays the same loan: that relates two states, and a ghost field or a model sees one.
 #[derive(Drop)]
 pub struct Stack<'a, T> {
     items: &'a mut [T],

@@ -1,5 +1,5 @@
 // Uses of the stack, each with what it concludes from the stack's contracts alone.
-ghost use Rattle.std.specs.Prelude.{◌≡◌, ◌-◌, ◌<◌, ◌≤◌, true, length, slice_set};
+ghost use Rattle.std.specs.Prelude.{◌≡◌, ◌-◌, ◌<◌, ◌≤◌, length, OnSome, slice_set};
 ghost use Rattle.stack.specs.Calls.{places};
 
 use super::*;
@@ -17,9 +17,7 @@ fn replace_top<T: Copy>(stack: &mut Stack<'_, T>, x: T) -> Option<T>
     ensures len { stack.new.len ≡ stack.old.len }
     ensures lent { stack.new.items.ghost_name ≡ stack.old.items.ghost_name }
 {
-    let Some(top) = stack.pop() else {
-        return None;
-    };
+    let top = stack.pop()?;
     let _ = stack.push(x);
     Some(top)
 }
@@ -34,16 +32,12 @@ fn open_two(list: &mut [Open], a: Open, b: Open)
 }
 
 // What was pushed together comes back together, in the same order.
-fn there_and_back<T: Copy>(stack: &mut Stack<'_, T>, xs: &[T], out: &mut [T]) -> bool
-    ensures back { result ≡ true → length out.old ≡ length xs.now → out.new ≡ xs.now }
+fn there_and_back<T: Copy>(stack: &mut Stack<'_, T>, xs: &[T], out: &mut [T]) -> Option<()>
+    ensures back { OnSome result (length out.old ≡ length xs.now → out.new ≡ xs.now) }
 {
-    let Ok(()) = stack.push_all(xs) else {
-        return false;
-    };
-    let Ok(()) = stack.pop_all(out) else {
-        return false;
-    };
-    true
+    stack.push_all(xs).ok()?;
+    stack.pop_all(out).ok()?;
+    Some(())
 }
 
 fn opened(routine: u16) -> Open {
@@ -71,7 +65,7 @@ fn all_or_nothing(rt: HostRuntime) {
     assert!(rt; stack.pop_all(&mut [0; 6]).is_err());
     assert!(rt; stack.pop_all(&mut out).is_ok());
     assert!(rt; stack.push_all(&[1, 2, 3]).is_err());
-    assert!(rt; there_and_back(&mut stack, &[1, 2], &mut out));
+    assert!(rt; there_and_back(&mut stack, &[1, 2], &mut out).is_some());
     assert_eq!(rt; out, [1, 2]);
     assert_eq!(rt; list, [0, 0, 0, 1, 2]);
 }
