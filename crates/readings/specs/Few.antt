@@ -12,9 +12,12 @@ use Rattle.readings.specs.Lists.{most, front, bits, paired}
 pub front_few : {X : Type 0} (xs : List X) → length (front xs) ≤ most
 front_few xs = omega (arith, length-take 64 xs)
 
-pub bits_few : (w : ℕ) → length (bits w) ≤ most
+pub length_bits : (w : ℕ) → length (bits w) ≡ 64
 unfolding bits
-bits_few w = omega (arith, length-map-range_with_len (λ n. two_of (bit w n)) 0 64)
+length_bits w = length-map-range_with_len (λ n. two_of (bit w n)) 0 64
+
+pub bits_few : (w : ℕ) → length (bits w) ≤ most
+bits_few w = omega (arith, length_bits w)
 
 pub length_paired : {X Y : Type 0} (xs : List X) (ys : List Y) → length (paired xs ys) ≡ min (length xs) (length ys)
 length_paired [] ys = omega arith

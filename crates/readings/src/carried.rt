@@ -23,9 +23,6 @@ impl<S: Source, M: CarryingMap<From = S::Kind>> Source for Carried<S, M> {
     }
 
     fn value(&self, n: usize) -> Option<M::To> {
-        let Some(value) = self.source.value(n) else {
-            return None;
-        };
-        Some(self.map.carry(value))
+        self.source.value(n).map(|value| self.map.carry(value))
     }
 }

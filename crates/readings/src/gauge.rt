@@ -31,12 +31,7 @@ impl<'a> Points<'a> {
     pub fn value(&self, point: u16) -> Option<u16>
         ensures value { result ≡ content self.now.list.now point }
     {
-        let n = point as usize;
-        if n < self.list.len() {
-            self.list[n]
-        } else {
-            None
-        }
+        self.list.get(usize::from(point)).copied().flatten()
     }
 }
 
@@ -45,7 +40,8 @@ fn margin_of(number: i32) -> Margin
     ensures value { result ≡ kept (held number) }
 {
     let end = i32::from(Margin::END);
-    Margin(number.min(end).max(-end) as i16)
+    // The cast keeps the number, which is within the ends; `try_from` would add a branch that never runs.
+    Margin(number.clamp(-end, end) as i16)
 }
 
 impl Side {
@@ -68,9 +64,6 @@ impl Definition {
         ensures value { result ≡ kept (reading self.now value) }
         ensures means { margin_means result ≡ reading self.now value }
     {
-        let Some(value) = value else {
-            return margin_of(0);
-        };
-        margin_of(self.side.difference(value, self.limit))
+        margin_of(value.map_or(0, |value| self.side.difference(value, self.limit)))
     }
 }

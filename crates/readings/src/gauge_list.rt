@@ -3,7 +3,7 @@ ghost use Rattle.readings.specs.Few.{margins_few};
 ghost use Rattle.readings.specs.Gauge.{margins};
 
 use crate::carried::Carried;
-use crate::front::{count, counted};
+use crate::front::counted;
 use crate::gauge::{Definition, Points};
 use crate::source::Source;
 use kinds::Margin;
@@ -23,13 +23,11 @@ impl<'a> Source for GaugeList<'a> {
     ghost few = { λ s. margins_few s.points.list.now s.definitions.now };
 
     fn len(&self) -> usize {
-        count(self.definitions)
+        counted(self.definitions).len()
     }
 
     fn value(&self, n: usize) -> Option<Margin> {
-        let Some(definition) = counted(self.definitions, n) else {
-            return None;
-        };
+        let definition = counted(self.definitions).get(n)?;
         let value = self.points.value(definition.point);
         Some(definition.margin(value))
     }

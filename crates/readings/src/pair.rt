@@ -22,13 +22,10 @@ impl<A: Source, B: Source> Source for PairSource<A, B> {
         self.first.len().min(self.second.len())
     }
 
+    #[tactic(auto, using(crate::proofs::Places::slice_get_paired))]
     fn value(&self, n: usize) -> Option<Pair<A::Kind, B::Kind>> {
-        let Some(first) = self.first.value(n) else {
-            return None;
-        };
-        let Some(second) = self.second.value(n) else {
-            return None;
-        };
+        let first = self.first.value(n)?;
+        let second = self.second.value(n)?;
         Some(Pair { first, second })
     }
 }

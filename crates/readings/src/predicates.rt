@@ -20,13 +20,6 @@ impl Source for Predicates {
     }
 
     fn value(&self, n: usize) -> Option<Two> {
-        if n >= MOST {
-            return None;
-        }
-        if (self.0 >> n) & 1 == 1 {
-            Some(Two::Yes)
-        } else {
-            Some(Two::No)
-        }
+        (n < MOST).then(|| Two::from((self.0 >> n) & 1 == 1))
     }
 }

@@ -12,9 +12,7 @@ fn keep<S: Source>(source: &S, n: usize, list: &mut [S::Kind]) -> Option<S::Kind
     ensures value { result ≡ slice_get (S.Source.readings source.now) n }
     ensures kept { MatchOption result (list.new ≡ list.old) (λ v. (0 < length list.old → list.new ≡ slice_set list.old 0 v)) }
 {
-    let Some(value) = source.value(n) else {
-        return None;
-    };
+    let value = source.value(n)?;
     let mut values = Stack::new(list, 0);
     let _ = values.push(value);
     Some(value)

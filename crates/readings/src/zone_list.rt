@@ -2,7 +2,7 @@
 ghost use Rattle.readings.specs.Few.{front_few};
 ghost use Rattle.readings.specs.Lists.{front};
 
-use crate::front::{count, counted};
+use crate::front::counted;
 use crate::source::Source;
 use kinds::Zones;
 
@@ -19,10 +19,10 @@ impl<'a> Source for ZoneList<'a> {
     ghost few = { λ s. front_few s.words.now };
 
     fn len(&self) -> usize {
-        count(self.words)
+        counted(self.words).len()
     }
 
     fn value(&self, n: usize) -> Option<Zones> {
-        counted(self.words, n)
+        counted(self.words).get(n).copied()
     }
 }

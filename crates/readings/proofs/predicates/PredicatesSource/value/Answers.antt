@@ -1,13 +1,8 @@
 -- A predicate is the bit that the shifted word ends in.
 use Rattle.std.proofs.Common.{rules}
-use Rattle.readings.proofs.Places.{bits_one, bits_zero, bits_past}
+use Rattle.std.proofs.lemmas.Option.{IfSome_then}
+use Rattle.readings.proofs.Places.{slice_get_bits}
 use Rattle.readings.proofs.predicates.PredicatesSource.value.Goals as goal
 
-pub returns-then-n-ge-MOST : goal.returns-then-n-ge-MOST
-returns-then-n-ge-MOST c = search (rules, bits_past)
-
-pub returns-then-self-n-eq1 : goal.returns-then-self-n-eq1
-returns-then-self-n-eq1 c = search (rules, bits_one)
-
-pub returns-else-self-n-eq1 : goal.returns-else-self-n-eq1
-returns-else-self-n-eq1 c = search (rules, bits_zero)
+pub returns : goal.returns
+returns c = record { value = slice_get_bits _ _ c.then.result c.then.ensures.variant (IfSome_then c.then.result c.then.ensures.some (λ x p. search rules)) }

@@ -1,7 +1,0 @@
--- A carried list keeps its length.
-use Rattle.std.proofs.Common.{rules}
-use Rattle.std.proofs.lemmas.List.{length-map}
-use Rattle.readings.proofs.carried.CarriedSource.len.Goals as goal
-
-pub returns : goal.returns
-returns g c = search (rules, length-map)
