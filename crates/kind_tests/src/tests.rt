@@ -9,15 +9,14 @@ use std::test::Fail;
 // The value's text is these bytes; memory one byte too short is refused and left as it was.
 fn reads<K: TextKind>(rt: &impl Abort, value: K, text: &[u8]) -> Result<(), Fail> {
     let mut out = [b'?'; 32];
-    let Ok(n) = value.write_text(&mut out) else {
-        return Err(Fail::new("too short"));
-    };
+    let n = value
+        .write_text(&mut out)
+        .map_err(|_| Fail::new("too short"))?;
     assert!(rt; n <= 32 && n > 0);
     assert_eq!(rt; &out[0..n], text);
     let mut short = [b'?'; 32];
-    let Err(fault) = value.write_text(&mut short[0..n - 1]) else {
-        return Err(Fail::new("written"));
-    };
+    let written = value.write_text(&mut short[0..n - 1]);
+    let fault = written.err().ok_or_else(|| Fail::new("written"))?;
     assert_eq!(rt; fault.number(), 18);
     assert_eq!(rt; fault.place(), n);
     assert_eq!(rt; short[0], b'?');
@@ -111,9 +110,7 @@ fn parts(rt: HostRuntime) {
 #[test]
 fn zones_apart(rt: HostRuntime) -> Result<(), Fail> {
     for n in 0..64 {
-        let Some(zone) = AtZone::new(n) else {
-            return Err(Fail::new("a zone is missing"));
-        };
+        let zone = AtZone::new(n).ok_or_else(|| Fail::new("a zone is missing"))?;
         assert_eq!(rt; zone.carry(Zones(1 << n)), Two::Yes);
         assert_eq!(rt; zone.carry(Zones(!(1 << n))), Two::No);
     }

@@ -4,7 +4,7 @@ ghost use Rattle.readings.specs.Lists.{front};
 
 use crate::source::MOST;
 
-// Those that count.
+// The front of the list.
 pub fn counted<T>(list: &[T]) -> &[T]
     ensures value { result.now ≡ front list.now }
 {
