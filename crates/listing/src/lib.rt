@@ -10,6 +10,7 @@ ghost use Rattle.listing.specs.Lines.{max_line, refusal_line, rule_line};
 ghost use Rattle.listing.specs.Input.{Answer, fault_number, fault_place, first_line};
 
 use reader::{Rule, read};
+use refusal::Refusal;
 use text::{Decimal, Line, WriteFault};
 
 // The longest input of the program, in bytes.
@@ -95,6 +96,9 @@ pub fn answer(input: &[u8], out: &mut [u8]) -> Result<usize, WriteFault>
     }
     match read(first_line(input)) {
         Ok(rule) => rule_line(&rule, out),
-        Err(fault) => refusal_line(fault.number(), fault.place(), out),
+        Err(fault) => {
+            let refusal = Refusal::from(fault);
+            refusal_line(refusal.number, refusal.place, out)
+        }
     }
 }

@@ -1,5 +1,5 @@
 -- Each way through `answer` has its line; an input has no other.
-use Rattle.std.proofs.Common.{◌≡◌, ℕ, ◌≤◌, List, length, subst, ap₂, arith}
+use Rattle.std.proofs.Common.{◌≡◌, ℕ, ◌≤◌, List, length, subst, ap, ap₂, arith}
 use Rattle.grammar.specs.Faults.{number, place}
 use Rattle.grammar.specs.Refusals.{Accepts, Refused}
 use Rattle.reader.specs.Rules.{TreeOf}
@@ -45,9 +45,9 @@ returns-in-Err c =
     let f = c.in-Err.fault in
     let here : Refused (first_line c.args.input.now) f = subst (λ x. Refused x f) c.first_line.ensures.value c.in-Err.ensures.reading.outcome in
     let mine = no_rule c.if-input-gt-MAX_INPUT.false here in
-    let same : refusal_line c.number-in-Err.result c.place-in-Err.result ≡ refusal_line (number f) (place f) = ap₂ refusal_line c.number-in-Err.ensures.value c.place-in-Err.ensures.value in
+    let same : refusal_line c.from-refusal.result.number c.from-refusal.result.place ≡ refusal_line (number f) (place f) = ap (λ r. refusal_line r.number r.place) c.from-refusal.ensures in
     let P : List ℕ → Type 0 = λ y. Written c.args.out.now c.refusal_line-in-Err.new.out y c.refusal_line-in-Err.result in
-    let bound : within (refusal_line c.number-in-Err.result c.place-in-Err.result) = omega (arith, refusal_length c.number-in-Err.result c.place-in-Err.result (omega arith) (omega arith)) in
+    let bound : within (refusal_line c.from-refusal.result.number c.from-refusal.result.place) = omega (arith, refusal_length c.from-refusal.result.number c.from-refusal.result.place (omega arith) (omega arith)) in
     record {
       some_line = (_, mine);
       one_line = one_line c.args.input.now;
