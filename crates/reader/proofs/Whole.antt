@@ -68,7 +68,7 @@ unfolding depth
 whole_level = refl
 
 -- behind the whole rule
-pub rule_behind : (n k : ℕ) (t : Tree) (p : Placed) (ys : List Item) → behind n whole t k (Some p) ys ≡ refused (Misplaced p.place)
+rule_behind : (n k : ℕ) (t : Tree) (p : Placed) (ys : List Item) → behind n whole t k (Some p) ys ≡ refused (Misplaced p.place)
 rule_behind n k t p ys = misplaced n p.place k (full t whole) p.token ys (full_whole t p.token)
 
 -- a draft that began with nothing
