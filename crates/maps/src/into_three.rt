@@ -30,6 +30,7 @@ impl CarryingMap for IntoThree {
           };
         } };
 
+    // A `From` of these two would only move this match: nothing else widens a value.
     fn carry(&self, value: Two) -> Three {
         match value {
             Two::No => Three::No,
