@@ -1,6 +1,8 @@
 // The decimal text of a number.
 ghost use Rattle.std.specs.Prelude.{◌≡◌, ◌≤◌, drop, decimal};
 
+use itoa::write_digits;
+
 // The digits stand at the end of the array, from the place `from` on.
 #[derive(Drop)]
 pub struct Decimal {
@@ -17,14 +19,7 @@ impl Decimal {
         ensures value { result.number ≡ number }
     {
         let mut digits = [0; 20];
-        let mut from = 19;
-        digits[from] = b'0' + (number % 10) as u8;
-        let mut rest = number / 10;
-        while rest > 0 {
-            from -= 1;
-            digits[from] = b'0' + (rest % 10) as u8;
-            rest /= 10;
-        }
+        let from = write_digits(number, &mut digits, 20);
         Decimal {
             number,
             digits,

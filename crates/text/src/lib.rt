@@ -6,11 +6,11 @@ ghost use Rattle.text.specs.Writing.{Written, number_of, place_of};
 
 pub mod decimal;
 pub mod line;
-pub mod lines;
 
 pub use decimal::Decimal;
+pub use fixed_vec::put;
 pub use line::Line;
-pub use lines::put;
+use refusal::Refusal;
 
 // Why a text was not written.
 #[derive(Clone, Copy, PartialEq, Eq, Debug)]
@@ -19,23 +19,15 @@ pub enum WriteFault {
     TooShort(usize),
 }
 
-impl WriteFault {
-    // The refusal's number.
-    pub fn number(&self) -> u16
-        ensures value { result ≡ number_of self.now }
-    {
-        match self {
-            WriteFault::TooShort(_) => 18,
-        }
-    }
+// The place is the length that the memory needs.
+impl From<WriteFault> for Refusal {
+    ghost from_gives = { λ fault refusal. refusal ≡ record { number = number_of fault; place = place_of fault } };
 
-    // The refusal's place: the length that the memory needs.
-    pub fn place(&self) -> usize
-        ensures value { result ≡ place_of self.now }
-    {
-        match self {
-            WriteFault::TooShort(needed) => *needed,
-        }
+    fn from(fault: WriteFault) -> Refusal {
+        let (number, place) = match fault {
+            WriteFault::TooShort(needed) => (18, needed),
+        };
+        Refusal { number, place }
     }
 }
 

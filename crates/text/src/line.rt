@@ -1,13 +1,45 @@
 // A short text under construction.
-ghost use Rattle.std.specs.Prelude.{◌≤◌};
+ghost use Rattle.std.specs.Prelude.{◌≡◌, [], ◌++◌, take};
+ghost use Rattle.text.specs.Lines.{content};
 
-// How many bytes a line holds.
-pub const CAPACITY: usize = 64;
+use fixed_vec::FixedVec;
 
-// The first `len` bytes are the text.
+// A text of at most `N` bytes.
 #[derive(Drop)]
-pub struct Line {
-    pub(crate) bytes: [u8; CAPACITY],
-    pub(crate) len: usize,
-    ghost within: { len ≤ 64 },
+pub struct Line<const N: usize> {
+    pub(crate) bytes: FixedVec<u8, N>,
+}
+
+impl<const N: usize> Line<N> {
+    // The empty text.
+    pub fn new() -> Line<N>
+        ensures value { content result ≡ [] }
+    {
+        Line {
+            bytes: FixedVec::new(0),
+        }
+    }
+
+    // The text so far.
+    pub fn bytes(&self) -> &[u8]
+        ensures value { result.now ≡ content self.now }
+    {
+        self.bytes.as_slice()
+    }
+
+    // Puts the piece behind the text; what lies past its capacity is cut off.
+    pub fn append(&mut self, piece: &[u8])
+        ensures value { content self.new ≡ take N (content self.old ++ piece.now) }
+    {
+        self.bytes.append(piece);
+    }
+
+    // The text with the piece behind it; what lies past its capacity is cut off.
+    pub fn add(self, piece: &[u8]) -> Line<N>
+        ensures value { content result ≡ take N (content self.entry ++ piece.now) }
+    {
+        let mut longer = self;
+        longer.append(piece);
+        longer
+    }
 }
