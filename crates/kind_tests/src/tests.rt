@@ -2,6 +2,7 @@
 use kind_texts::TextKind;
 use kinds::{Margin, Pair, Three, TruthKind, Two, Zones};
 use maps::{AtZone, CarryingMap, First, IntoThree, Second, Sign};
+use refusal::Refusal;
 use std::marker::PhantomData;
 use std::process::Abort;
 use std::test::Fail;
@@ -17,8 +18,9 @@ fn reads<K: TextKind>(rt: &impl Abort, value: K, text: &[u8]) -> Result<(), Fail
     let mut short = [b'?'; 32];
     let written = value.write_text(&mut short[0..n - 1]);
     let fault = written.err().ok_or_else(|| Fail::new("written"))?;
-    assert_eq!(rt; fault.number(), 18);
-    assert_eq!(rt; fault.place(), n);
+    let refusal = Refusal::from(fault);
+    assert_eq!(rt; refusal.number, 18);
+    assert_eq!(rt; refusal.place, n);
     assert_eq!(rt; short[0], b'?');
     Ok(())
 }

@@ -6,9 +6,9 @@ ghost use Rattle.kinds.specs.Margin.{held, margin_means};
 ghost use Rattle.text.specs.Lines.{content};
 ghost use Rattle.kind_texts.specs.Pieces.{length_margin};
 
-use crate::kind::TextKind;
+use crate::kind::{TEXT_LIMIT, TextKind};
 use kinds::Margin;
-use text::{Decimal, Line, WriteFault, write};
+use text::{Decimal, Line};
 
 // The margin in tenths of a percent, cut toward zero.
 fn tenths(margin: Margin) -> i16
@@ -25,7 +25,7 @@ fn sign(number: i16) -> &'static [u8]
 }
 
 // A number of tenths, with a point before the last digit.
-fn spelled(tenths: i16) -> Line
+fn spelled(tenths: i16) -> Line<TEXT_LIMIT>
     ensures value { content result ≡ tenths_text tenths }
 {
     let size = u64::from(tenths.unsigned_abs());
@@ -45,8 +45,7 @@ impl TextKind for Margin {
 
     ghost short = { λ x. length_margin (margin_means x) };
 
-    fn write_text(self, out: &mut [u8]) -> Result<usize, WriteFault> {
-        let line = spelled(tenths(self));
-        write(out, line.bytes())
+    fn line(self) -> Line<TEXT_LIMIT> {
+        spelled(tenths(self))
     }
 }

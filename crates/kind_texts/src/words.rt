@@ -3,9 +3,9 @@ ghost use Rattle.kind_texts.specs.Words.{two_text, three_text};
 ghost use Rattle.kinds.specs.Two.{two_means};
 ghost use Rattle.std.proofs.Common.{rules};
 
-use crate::kind::TextKind;
+use crate::kind::{TEXT_LIMIT, TextKind};
 use kinds::{Three, Two};
-use text::{WriteFault, write};
+use text::Line;
 
 impl TextKind for Two {
     ghost text = { λ x. two_text (two_means x) };
@@ -14,11 +14,12 @@ impl TextKind for Two {
 
     ghost short = { Prim.search rules };
 
-    fn write_text(self, out: &mut [u8]) -> Result<usize, WriteFault> {
-        match self {
-            Two::No => write(out, b"no"),
-            Two::Yes => write(out, b"yes"),
-        }
+    fn line(self) -> Line<TEXT_LIMIT> {
+        let word: &[u8] = match self {
+            Two::No => b"no",
+            Two::Yes => b"yes",
+        };
+        Line::new().add(word)
     }
 }
 
@@ -29,11 +30,12 @@ impl TextKind for Three {
 
     ghost short = { Prim.search rules };
 
-    fn write_text(self, out: &mut [u8]) -> Result<usize, WriteFault> {
-        match self {
-            Three::No => write(out, b"no"),
-            Three::Unknown => write(out, b"unknown"),
-            Three::Yes => write(out, b"yes"),
-        }
+    fn line(self) -> Line<TEXT_LIMIT> {
+        let word: &[u8] = match self {
+            Three::No => b"no",
+            Three::Unknown => b"unknown",
+            Three::Yes => b"yes",
+        };
+        Line::new().add(word)
     }
 }

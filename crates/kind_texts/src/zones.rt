@@ -6,12 +6,12 @@ ghost use Rattle.kinds.specs.Zones.{zones_means};
 ghost use Rattle.text.specs.Lines.{content};
 ghost use Rattle.kind_texts.specs.Pieces.{length_zone};
 
-use crate::kind::TextKind;
+use crate::kind::{TEXT_LIMIT, TextKind};
 use kinds::Zones;
-use text::{Decimal, Line, WriteFault, write};
+use text::{Decimal, Line};
 
 // The text for a count of zones that hold and the lowest zone that does not, 64 for none.
-fn spelled(count: u32, lowest: u32) -> Line
+fn spelled(count: u32, lowest: u32) -> Line<TEXT_LIMIT>
     ensures value { content result ≡ counted_text count lowest }
 {
     let count = Decimal::new(u64::from(count));
@@ -30,8 +30,7 @@ impl TextKind for Zones {
 
     ghost short = { λ x. length_zone (zones_means x) };
 
-    fn write_text(self, out: &mut [u8]) -> Result<usize, WriteFault> {
-        let line = spelled(self.0.count_ones(), (!self.0).trailing_zeros());
-        write(out, line.bytes())
+    fn line(self) -> Line<TEXT_LIMIT> {
+        spelled(self.0.count_ones(), self.0.trailing_ones())
     }
 }

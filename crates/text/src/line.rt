@@ -4,7 +4,8 @@ ghost use Rattle.text.specs.Lines.{content};
 
 use fixed_vec::FixedVec;
 
-// A text of at most `N` bytes.
+// A text of at most `N` bytes, which the impl below builds without fail. Display could promise no exact text of each value:
+// what std says of `write!` holds only where it answers Ok, and it never says that it does.
 #[derive(Drop)]
 pub struct Line<const N: usize> {
     pub(crate) bytes: FixedVec<u8, N>,
