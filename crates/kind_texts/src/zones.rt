@@ -15,12 +15,13 @@ fn spelled(count: u32, lowest: u32) -> Line<TEXT_LIMIT>
     ensures value { content result ≡ counted_text count lowest }
 {
     let count = Decimal::new(u64::from(count));
-    let front = Line::new().add(count.bytes()).add(b" first ");
-    if lowest == 64 {
-        return front.add(b"none");
-    }
-    let lowest = Decimal::new(u64::from(lowest));
-    front.add(lowest.bytes())
+    let digits = Decimal::new(u64::from(lowest));
+    let word: &[u8] = if lowest == 64 {
+        b"none"
+    } else {
+        digits.bytes()
+    };
+    Line::new().add(count.bytes()).add(b" first ").add(word)
 }
 
 impl TextKind for Zones {
