@@ -1,15 +1,15 @@
--- The text of a rule, from its nodes: what the draft then holds.
-use Rattle.std.proofs.Common.{◌≡◌, ℕ, ◌-◌, ◌<◌, ◌≤◌, List, ◌++◌, length, take, drop, sym, ap, ◌∙◌, subst, arith, length-take}
+-- The text of a rule, from its nodes: what the line then holds.
+use Rattle.std.proofs.Common.{◌≡◌, ◌-◌, ◌<◌, ◌≤◌, ℕ, List, [], ◌++◌, length, take, sym, ap, ◌∙◌, subst, arith}
 use native.Mathlib.Bridge.{le_prop}
 use mathlib.Core.Logic.{∥∥₁_elim}
-use Rattle.std.proofs.lemmas.List.{take_at, take_all}
+use Rattle.std.proofs.lemmas.List.{take_all}
 use Rattle.grammar.specs.Grammar.{Tree}
-use Rattle.grammar.specs.Layout.{layout}
 use Rattle.grammar.specs.declared.Node.{Node}
 use Rattle.reader.specs.Rules.{nodes_in}
 use Rattle.reader.specs.declared.rule.Rule.{Rule}
 use Rattle.reader.proofs.Trees.{some_tree}
-use Rattle.text.specs.Lines.{joined}
+use Rattle.text.specs.Lines.{content}
+use Rattle.text.specs.declared.line.Line.{Line}
 use Rattle.reader.specs.Rules.{TreeOf}
 use Rattle.writer.specs.Puts.{Puts}
 use Rattle.writer.specs.Tops.{Ordered, Tops}
@@ -32,19 +32,6 @@ module _ (r : Rule) (ns : List Node) (e : ns ≡ nodes_in r) where
       let P : List Node → Type 0 = λ y. Tops y (length y - 1) t in
       subst P (sym (e ∙ x.nodes)) (tops_nodes t (counted x.text t x.accepted))
 
-  pub draft_end : {old new : List ℕ} {end : ℕ} → ((t : Tree) → Tops ns (length ns - 1) t → Puts old new 0 (layout t) end) → end ≤ length old
-  unfolding joined
-  draft_end {old} puts =
-      ∥∥₁_elim (some_tree r) le_prop λ x.
-      omega (arith, (puts x.0 (last_tops x.0 x.1)).place, length-take (length old) (take 0 old ++ layout x.0))
-
--- a text at the front of a draft that has room for it
-front : (old text : List ℕ) → length text ≤ length old → joined old 0 text ≡ text
-unfolding joined
-front old text h = take_all (length old) text h
-
-pub draft_text : {old new text : List ℕ} {end : ℕ} → length text ≤ length old → Puts old new 0 text end → take end new ≡ text
-draft_text {old} {new} {text} {end} h p =
-    let same = front old text h in
-    let long : length text ≡ end = sym (p.place ∙ ap length same) in
-    ap (take end) (p.memory ∙ ap (λ x. x ++ drop end old) same) ∙ take_at text (drop end old) end long
+-- a text behind none, in a line that has room for it
+pub whole_text : {N : ℕ} {old new : Line N} {text : List ℕ} → content old ≡ [] → length text ≤ N → Puts old new text → content new ≡ text
+whole_text {N} {old} {new} {text} none h p = p.is ∙ ap (λ x. take N (x ++ text)) none ∙ take_all N text h

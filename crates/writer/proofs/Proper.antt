@@ -4,7 +4,7 @@ use Rattle.std.proofs.Common.{◌≡◌, ℕ, suc, ◌+◌, ◌≤◌, List, [],
 use Rattle.words.specs.Words.{Listed}
 use Rattle.words.specs.declared.Operands.TheVariants.{Zero, One, Two}
 use Rattle.grammar.specs.Grammar.{Tree, leaf, one, two, takes, Part, rule, unit, Reads, a_leaf, one_sided, in_parens, a_unit, two_sided, in_depth, words}
-use Rattle.grammar.specs.Lexemes.{Placed, means_open, means_close, means_word, Spells, none, more}
+use Rattle.grammar.specs.Lexemes.{Placed, Spells}
 use Rattle.grammar.specs.Nodes.{size}
 use Rattle.grammar.specs.declared.Token.{Token}
 use Rattle.grammar.specs.declared.Token.TheVariants.{Open, Close, Word as word}
