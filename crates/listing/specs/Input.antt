@@ -3,7 +3,8 @@
 --   first_line input           the bytes before the first byte 10
 --   Answer input line          the line that is printed
 --   fault_number, fault_place  the number and the place of a refused input
-use Rattle.std.specs.Prelude.{ℕ, ◌<◌, ◌≤◌, cond, List, [], ◌∷◌, length, ◌==◌}
+use Rattle.std.specs.Prelude.{ℕ, ◌<◌, ◌≤◌, List, length, ◌==◌}
+use Rattle.std.specs.List.{before_first}
 use Rattle.grammar.specs.Faults.{number, place}
 use Rattle.grammar.specs.Grammar.{Tree}
 use Rattle.grammar.specs.Layout.{layout}
@@ -23,8 +24,7 @@ abbrev pub fault_place : InputFault → ℕ
 fault_place TooLong = max_input
 
 abbrev pub first_line : List ℕ → List ℕ
-first_line [] = []
-first_line (b ∷ bs) = cond (b == 10) [] (b ∷ first_line bs)
+first_line input = before_first (λ b. b == 10) input
 
 -- too long an input comes first; then the rule is written out, or refused
 pub data Answer (input : List ℕ) : List ℕ → Type 0 where

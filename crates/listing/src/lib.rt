@@ -1,7 +1,7 @@
 // The lines that the program prints.
 #![tactic(auto)]
 
-ghost use Rattle.std.specs.Prelude.{◌≡◌, ℕ, ◌≤◌, List, length};
+ghost use Rattle.std.specs.Prelude.{◌≡◌, ℕ, ◌≤◌, List, length, ◌==◌, position, MatchResult};
 ghost use Rattle.grammar.specs.Grammar.{Tree};
 ghost use Rattle.grammar.specs.Layout.{layout};
 ghost use Rattle.reader.specs.Rules.{TreeOf};
@@ -11,7 +11,7 @@ ghost use Rattle.listing.specs.Input.{Answer, fault_number, fault_place, first_l
 
 use reader::{Rule, read};
 use refusal::Refusal;
-use text::{Decimal, Line, WriteFault};
+use text::{Decimal, Line, WriteFault, write};
 
 // The longest input of the program, in bytes.
 pub const MAX_INPUT: usize = 65536;
@@ -22,23 +22,15 @@ pub enum InputFault {
     TooLong,
 }
 
-impl InputFault {
-    // The number that the refusal's line shows.
-    pub fn number(&self) -> u16
-        ensures value { result ≡ fault_number self.now }
-    {
-        match *self {
-            InputFault::TooLong => 44,
-        }
-    }
+// The place is the limit.
+impl From<InputFault> for Refusal {
+    ghost from_gives = { λ fault refusal. refusal ≡ record { number = fault_number fault; place = fault_place fault } };
 
-    // The place that the refusal's line shows: the limit.
-    pub fn place(&self) -> usize
-        ensures value { result ≡ fault_place self.now }
-    {
-        match *self {
-            InputFault::TooLong => MAX_INPUT,
-        }
+    fn from(fault: InputFault) -> Refusal {
+        let (number, place) = match fault {
+            InputFault::TooLong => (44, MAX_INPUT),
+        };
+        Refusal { number, place }
     }
 }
 
@@ -46,18 +38,19 @@ impl InputFault {
 pub const MAX_LINE: usize = 542;
 
 // Writes a refusal's line.
-pub fn refusal_line(number: u16, place: usize, out: &mut [u8]) -> Result<usize, WriteFault>
-    ensures written { Written out.old out.new (refusal_line number place) result }
+pub fn refusal_line(refusal: Refusal, out: &mut [u8]) -> Result<usize, WriteFault>
+    ensures written { Written out.old out.new (refusal_line refusal.number refusal.place) result }
 {
-    let number = Decimal::new(number as u64);
-    let place = Decimal::new(place as u64);
-    let line = Line::new()
+    let number = Decimal::new(u64::from(refusal.number));
+    // No `From` leads from a `usize` to a `u64`.
+    let place = Decimal::new(refusal.place as u64);
+    let line = Line::<MAX_LINE>::new()
         .add(b"!")
         .add(number.bytes())
         .add(b" ")
         .add(place.bytes())
         .add(b"\n");
-    text::write(out, line.bytes())
+    write(out, line.bytes())
 }
 
 // Writes a rule's line: its text as laid out.
@@ -66,21 +59,38 @@ pub fn rule_line(rule: &Rule, out: &mut [u8]) -> Result<usize, WriteFault>
     ensures written { (t : Tree) → TreeOf rule.now t → Written out.old out.new (rule_line (layout t)) result }
     ensures short { (t : Tree) → TreeOf rule.now t → length (rule_line (layout t)) ≤ max_line }
 {
-    let mut line = [0; MAX_LINE];
-    let len = writer::write(rule, &mut line)?;
-    let end = text::put(&mut line, len, b"\n");
-    text::write(out, &line[0..end])
+    let text = writer::text_of(rule);
+    let line = Line::<MAX_LINE>::new().add(text.bytes()).add(b"\n");
+    write(out, line.bytes())
+}
+
+// The place of the first byte 10.
+fn line_end(input: &[u8]) -> Option<usize>
+    ensures place { result ≡ position (λ b. b == 10) input.now }
+{
+    input.iter().position(|b| *b == b'\n')
 }
 
 // The rule's part of the input: what stands before the first byte 10.
 pub fn first_line(input: &[u8]) -> &[u8]
     ensures value { result.now ≡ first_line input.now }
 {
-    let mut end = 0;
-    while end < input.len() && input[end] != b'\n' {
-        end += 1;
+    match line_end(input) {
+        Some(end) => &input[..end],
+        None => input,
     }
-    &input[0..end]
+}
+
+// The rule in the input, or why there is none.
+fn rule_of(input: &[u8]) -> Result<Rule, Refusal>
+    ensures answer { MatchResult result
+        (λ rule. (t : Tree) × TreeOf rule t × Answer input.now (rule_line (layout t)))
+        (λ refusal. Answer input.now (refusal_line refusal.number refusal.place)) }
+{
+    if input.len() > MAX_INPUT {
+        return Err(Refusal::from(InputFault::TooLong));
+    }
+    Ok(read(first_line(input))?)
 }
 
 // Writes the line that answers an input: the rule in it written out, or why there is none.
@@ -90,15 +100,8 @@ pub fn answer(input: &[u8], out: &mut [u8]) -> Result<usize, WriteFault>
     ensures short { (line : List ℕ) → Answer input.now line → length line ≤ max_line }
     ensures written { (line : List ℕ) → Answer input.now line → Written out.old out.new line result }
 {
-    if input.len() > MAX_INPUT {
-        let fault = InputFault::TooLong;
-        return refusal_line(fault.number(), fault.place(), out);
-    }
-    match read(first_line(input)) {
+    match rule_of(input) {
         Ok(rule) => rule_line(&rule, out),
-        Err(fault) => {
-            let refusal = Refusal::from(fault);
-            refusal_line(refusal.number, refusal.place, out)
-        }
+        Err(refusal) => refusal_line(refusal, out),
     }
 }

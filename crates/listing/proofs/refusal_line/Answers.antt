@@ -1,21 +1,23 @@
-use Rattle.std.proofs.Common.{◌≡◌, ℕ, List, ◌++◌, take, decimal, ap, ◌∙◌, subst, arith}
+-- The line's pieces, one behind another.
+use Rattle.std.proofs.Common.{◌≡◌, [], ◌∷◌, ◌++◌, take, decimal, refl, ap, ◌∙◌, append_assoc, arith, rules, take_all}
 use Rattle.text.specs.Lines.{content}
-use Rattle.text.specs.Writing.{Written}
+use Rattle.text.proofs.Cuts.{added}
 use Rattle.listing.specs.Lines.{refusal_line}
-use Rattle.listing.proofs.Joining.{refusal_joined}
+use Rattle.listing.proofs.Joining.{refusal_length}
 use Rattle.listing.proofs.refusal_line.Goals as goal
-
--- a piece that is a number's digits
-digits : (before after piece : List ℕ) (m n : ℕ) → after ≡ take 64 (before ++ piece) → piece ≡ decimal m → m ≡ n → after ≡ take 64 (before ++ decimal n)
-digits before after piece m n e d s = e ∙ ap (λ p. take 64 (before ++ p)) (d ∙ ap decimal s)
 
 pub returns : goal.returns
 returns c =
-    let whole : content c.add-line.result ≡ refusal_line c.args.number c.args.place =
-    refusal_joined c.args.number c.args.place (content c.new.result) (content c.add.result) (content c.add-2.result) (content c.add-3.result) (content c.add-4.result) (content c.add-line.result)
-    (omega arith) (omega arith) c.new.ensures.value c.add.ensures.value
-    (digits (content c.add.result) (content c.add-2.result) _ _ _ c.add-2.ensures.value c.bytes.ensures.value c.new-number.ensures.value)
-    c.add-3.ensures.value
-    (digits (content c.add-3.result) (content c.add-4.result) _ _ _ c.add-4.ensures.value c.bytes-2.ensures.value c.new-place.ensures.value)
-    c.add-line.ensures.value in
-    record { written = subst (λ t. Written c.args.out.now c.write.new.out t c.write.result) (c.bytes-3.ensures.value ∙ whole) c.write.ensures.written }
+    let n = c.args.refusal.number in
+    let p = c.args.refusal.place in
+    let number : c.bytes.result.now ≡ decimal n = search rules in
+    let place : c.bytes-2.result.now ≡ decimal p = search rules in
+    let one = added 542 _ _ [] (33 ∷ []) _ c.new.ensures.value c.add.ensures.value refl in
+    let two = added 542 _ _ (33 ∷ []) (decimal n) _ one c.add-2.ensures.value number in
+    let three = added 542 _ _ (33 ∷ decimal n) (32 ∷ []) _ two c.add-3.ensures.value refl in
+    let four = added 542 _ _ ((33 ∷ decimal n) ++ 32 ∷ []) (decimal p) _ three c.add-4.ensures.value place in
+    let five = added 542 _ _ (((33 ∷ decimal n) ++ 32 ∷ []) ++ decimal p) (10 ∷ []) _ four c.add-line.ensures.value refl in
+    let line : (((33 ∷ decimal n) ++ 32 ∷ []) ++ decimal p) ++ 10 ∷ [] ≡ refusal_line n p = simp append_assoc in
+    let short = refusal_length n p (omega arith) (omega arith) in
+    let whole : content c.add-line.result ≡ refusal_line n p = five ∙ ap (take 542) line ∙ take_all 542 (refusal_line n p) (omega arith) in
+    record { written = rw (c.bytes-3.ensures.value ∙ whole) at c.write.ensures.written }

@@ -1,25 +1,23 @@
-use Rattle.std.proofs.Common.{ℕ, ◌+◌, ◌≤◌, List, [], ◌∷◌, length, take, ap, ◌∙◌, subst, arith, rules}
-use native.Mathlib.Nat.{sub-zero}
+-- The rule's text and the byte 10 fit the line.
+use Rattle.std.proofs.Common.{◌≡◌, [], ◌∷◌, ◌∙◌, refl, take_all}
 use Rattle.grammar.specs.Layout.{layout}
-use Rattle.text.specs.Writing.{Written}
-use Rattle.listing.proofs.Joining.{put_within, rule_length, text_then}
+use Rattle.text.specs.Lines.{content}
+use Rattle.text.proofs.Cuts.{added}
+use Rattle.listing.specs.Lines.{rule_line}
+use Rattle.listing.proofs.Joining.{rule_length}
 use Rattle.listing.proofs.rule_line.Goals as goal
-
-pub slice_bounds-write-end-2 : goal.slice_bounds-write-end-2
-slice_bounds-write-end-2 c =
-    let within = put_within c.write.new.out (10 ∷ []) c.in_ok-len.len c.put-end.result c.put-end.ensures.place in
-    search rules
 
 pub returns : goal.returns
 returns c =
+    let e = c.text_of-text.ensures in
     record {
-      some_tree = c.write.ensures.some_tree;
+      some_tree = e.some_tree;
       written =
           λ t tr.
-          let e = c.in_ok-len.ensures in
-          let room : length (layout t) + 1 ≤ length c.write.new.out = omega (arith, e.short t tr) in
-          let whole = text_then _ c.write.new.out c.put-end.new.buffer (layout t) (10 ∷ []) c.in_ok-len.len c.put-end.result room (e.written t tr) c.put-end.ensures.place c.put-end.ensures.memory in
-          let P : List ℕ → Type 0 = λ y. Written c.args.out.now c.write-2.new.out y c.write-2.result in
-          subst P (ap (λ n. take n c.put-end.new.buffer) (sub-zero c.put-end.result) ∙ whole) c.write-2.ensures.written;
-      short = λ t tr. rule_length (layout t) (c.write.ensures.short t tr);
+          let one = added 542 _ _ [] _ _ c.new.ensures.value c.add.ensures.value (c.bytes.ensures.value ∙ e.text t tr) in
+          let two = added 542 _ _ _ (10 ∷ []) _ one c.add-line.ensures.value refl in
+          let short = rule_length (layout t) (e.short t tr) in
+          let whole : content c.add-line.result ≡ rule_line (layout t) = two ∙ take_all 542 (rule_line (layout t)) short in
+          rw (c.bytes-2.ensures.value ∙ whole) at c.write.ensures.written;
+      short = λ t tr. rule_length (layout t) (e.short t tr);
     }

@@ -4,24 +4,8 @@ use Rattle.writer.proofs.Putting.{puts_piece, puts_then}
 use Rattle.writer.proofs.Tops.{before_at, tops_move, top_zero, top_one, top_two, in_parens}
 use Rattle.writer.proofs.+put_rule_put_unit.Goals as goal
 
-pub put_rule-overflow_sub-top : goal.put_rule-overflow_sub-top
-put_rule-overflow_sub-top t c = before_at _ _ _ _ c.requires.ordered c.requires.within c.in-One.ensures.value
-
-pub put_rule-put_unit-requires : goal.put_rule-put_unit-requires
-put_rule-put_unit-requires t c =
-    let h = before_at _ _ _ _ c.requires.ordered c.requires.within c.in-One.ensures.value in
-    (omega arith, (c.requires.ordered, omega arith))
-
-pub put_rule-overflow_sub-right : goal.put_rule-overflow_sub-right
-put_rule-overflow_sub-right t c = (before_at _ _ _ _ c.requires.ordered c.requires.within c.in-Two.ensures.value).0
-
 pub put_rule-put_unit-requires-in-Two : goal.put_rule-put_unit-requires-in-Two
 put_rule-put_unit-requires-in-Two t c =
-    let h = before_at _ _ _ _ c.requires.ordered c.requires.within c.in-Two.ensures.value in
-    (omega arith, (c.requires.ordered, omega arith))
-
-pub put_rule-put_unit-requires-in-Two-2 : goal.put_rule-put_unit-requires-in-Two-2
-put_rule-put_unit-requires-in-Two-2 t c =
     let h = before_at _ _ _ _ c.requires.ordered c.requires.within c.in-Two.ensures.value in
     (omega arith, (c.requires.ordered, omega arith))
 
