@@ -1,38 +1,19 @@
 // The program: a rule comes in on standard input, and its line goes out on standard output.
 #![tactic(auto)]
 
-ghost use Rattle.std.specs.Prelude.{◌≤◌, length, IfOk};
-
 use listing::{MAX_INPUT, MAX_LINE, answer};
 use std::io;
 use std::io::{Read, Write};
 
-// Fills the buffer from standard input, and answers how many bytes came.
-fn fill(rt: &HostRuntime, buffer: &mut [u8]) -> io::Result<usize>
-    ensures within { IfOk result (λ n. n ≤ length buffer.old) }
-{
-    let mut input = rt.stdin();
-    let mut len = 0;
-    for _ in 0..=MAX_INPUT {
-        if len >= buffer.len() {
-            break;
-        }
-        let count = input.read(&mut buffer[len..])?;
-        if count == 0 {
-            break;
-        }
-        len += count;
-    }
-    Ok(len)
-}
+// One byte more than the longest input tells an input that is too long.
+const MAX_READ: u64 = MAX_INPUT as u64 + 1;
 
 fn main(rt: HostRuntime) -> io::Result<()> {
-    // One byte more than the limit tells an input that is too long.
-    let mut input = vec![in rt.alloc(); 0u8; MAX_INPUT + 1]?;
-    let len = fill(&rt, &mut input)?;
+    let mut input = Vec::new(rt.alloc());
+    rt.stdin().take(MAX_READ).read_to_end(&mut input)?;
     let mut line = [0u8; MAX_LINE];
-    match answer(&input[0..len], &mut line) {
-        Ok(end) => rt.stdout().write_all(&line[0..end]),
+    match answer(&input, &mut line) {
+        Ok(end) => rt.stdout().write_all(&line[..end]),
         Err(_) => unreachable(),
     }
 }

@@ -40,6 +40,7 @@ pub const MAX_LINE: usize = 542;
 // Writes a refusal's line.
 pub fn refusal_line(refusal: Refusal, out: &mut [u8]) -> Result<usize, WriteFault>
     ensures written { Written out.old out.new (refusal_line refusal.number refusal.place) result }
+    ensures short { length (refusal_line refusal.number refusal.place) ≤ max_line }
 {
     let number = Decimal::new(u64::from(refusal.number));
     // No `From` leads from a `usize` to a `u64`.

@@ -3,15 +3,15 @@
 #![tactic(auto)]
 
 use listing::{MAX_INPUT, MAX_LINE, answer, first_line, refusal_line};
+use refusal::Refusal;
 use std::io;
 use std::io::{Read, Write};
-use text::WriteFault;
 
-// Prints the line that answers the input, in the memory lent.
+// Prints the line that answers the input, in the memory lent, or why that is too short.
 fn show_in(rt: &HostRuntime, input: &[u8], line: &mut [u8]) -> io::Result<()> {
     match answer(input, line) {
-        Ok(end) => rt.stdout().write_all(&line[0..end]),
-        Err(fault) => show_fault(rt, fault),
+        Ok(end) => rt.stdout().write_all(&line[..end]),
+        Err(fault) => show_refusal(rt, Refusal::from(fault)),
     }
 }
 
@@ -19,22 +19,19 @@ fn show(rt: &HostRuntime, input: &[u8]) -> io::Result<()> {
     show_in(rt, input, &mut [0u8; MAX_LINE])
 }
 
-// Prints the refusal of a writing call.
-fn show_fault(rt: &HostRuntime, fault: WriteFault) -> io::Result<()> {
+// Prints a refusal's line.
+fn show_refusal(rt: &HostRuntime, refusal: Refusal) -> io::Result<()> {
     let mut line = [0u8; MAX_LINE];
-    let Ok(end) = refusal_line(fault.number(), fault.place(), &mut line) else {
-        return Ok(());
-    };
-    rt.stdout().write_all(&line[0..end])
+    match refusal_line(refusal, &mut line) {
+        Ok(end) => rt.stdout().write_all(&line[..end]),
+        Err(_) => unreachable(),
+    }
 }
 
-// Answers each line of the input.
+// Answers each line of the input, without its byte 10.
 fn show_lines(rt: &HostRuntime, input: &[u8]) -> io::Result<()> {
-    let mut at = 0;
-    while at < input.len() {
-        let line = first_line(&input[at..]);
-        show(rt, line)?;
-        at = at.saturating_add(line.len()).saturating_add(1);
+    for line in input.split_inclusive(|b| *b == b'\n') {
+        show(rt, first_line(line))?;
     }
     Ok(())
 }
@@ -42,11 +39,11 @@ fn show_lines(rt: &HostRuntime, input: &[u8]) -> io::Result<()> {
 fn main(rt: HostRuntime) -> io::Result<()> {
     let mut input = Vec::new(rt.alloc());
     rt.stdin().read_to_end(&mut input)?;
-    show_lines(&rt, input.as_slice())?;
+    show_lines(&rt, &input)?;
     let full = vec![in rt.alloc(); b' '; MAX_INPUT]?;
-    show(&rt, full.as_slice())?;
+    show(&rt, &full)?;
     let over = vec![in rt.alloc(); b'\n'; MAX_INPUT + 1]?;
-    show(&rt, over.as_slice())?;
+    show(&rt, &over)?;
     show(&rt, b"p1\n\0(")?;
     show_in(&rt, b"p1 or p2", &mut [0u8; 9])?;
     show_in(&rt, b"p1 and p2", &mut [0u8; 9])

@@ -47,7 +47,8 @@ pub fn write(rule: &Rule, out: &mut [u8]) -> Result<usize, WriteFault>
     text::write(out, text_of(rule).bytes())
 }
 
-// Puts the text of the rule with the node `top` at its top behind the line's text.
+// Puts the text of the rule with the node `top` at its top behind the line's text. Nodes are named by their places in the
+// rule, which lies in fixed memory with no heap.
 #[cycle(put_rule_put_unit)]
 fn put_rule(nodes: &[Node], top: usize, line: &mut Line<MAX_RULE_TEXT>)
     requires ordered { Ordered 0 nodes.now }

@@ -20,4 +20,4 @@ returns c =
     let line : (((33 ∷ decimal n) ++ 32 ∷ []) ++ decimal p) ++ 10 ∷ [] ≡ refusal_line n p = simp append_assoc in
     let short = refusal_length n p (omega arith) (omega arith) in
     let whole : content c.add-line.result ≡ refusal_line n p = five ∙ ap (take 542) line ∙ take_all 542 (refusal_line n p) (omega arith) in
-    record { written = rw (c.bytes-3.ensures.value ∙ whole) at c.write.ensures.written }
+    record { written = rw (c.bytes-3.ensures.value ∙ whole) at c.write.ensures.written; short = omega arith }
