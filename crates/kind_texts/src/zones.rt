@@ -32,6 +32,6 @@ impl TextKind for Zones {
     ghost short = { λ x. length_zone (zones_means x) };
 
     fn line(self) -> Line<TEXT_LIMIT> {
-        spelled(self.0.count_ones(), self.0.trailing_ones())
+        spelled(self.0.count_ones(), (!self.0).trailing_zeros())
     }
 }

@@ -6,5 +6,4 @@ pub returns : goal.returns
 returns c =
     let word = c.args.self.0 in
     let small : word < 2 ^ 64 = search rules in
-    let text = rw c.trailing_ones.ensures at c.spelled.ensures.value in
-    record { value = text ∙ counts_text word small }
+    record { value = c.spelled.ensures.value ∙ counts_text word small }
