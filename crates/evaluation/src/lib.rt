@@ -9,7 +9,7 @@ use reels::EventKind;
 // What a watcher does at one node of a rule. The right or only operand is the step just before. `And`, `Or` and `Implies` have
 // the number of their left operand's step, `Since` and `Rsince` this and then the number of their cell; the other words that
 // look back have the number of their cell. Routine words have routine cells, the others plain cells, each counted from 0.
-#[derive(Clone, Copy)]
+#[derive(Clone, Copy, PartialEq, Eq, Debug)]
 pub enum Step {
     True,
     False,
@@ -33,18 +33,14 @@ pub enum Step {
 }
 
 // Theorems about which event the routine words of the next event look back to, and which routines are open.
-pub fn returning_stands() -> u8
+pub fn returning_stands()
     ensures back { LooksBack }
     ensures opened { BegunOpened }
-{
-    0
-}
+{}
 
 // Theorems about a watcher's cells in any kind: they hold what looking back says, and so do the values of the steps.
-pub fn evaluation_stands<K: TruthKind>() -> u8
+pub fn evaluation_stands<K: TruthKind>()
     ensures fresh { Fresh K.TruthKind.algebra }
     ensures evaluates { Evaluates K.TruthKind.algebra }
     ensures copies { Copies K.TruthKind.algebra }
-{
-    0
-}
+{}

@@ -12,6 +12,8 @@ use native.Mathlib.Bridge.{le_prop}
 use base.Stored.{Coded-set, coded_list}
 use Rattle.words.specs.declared.Operator.{Operator}
 use Rattle.words.specs.declared.Operator.TheVariants.{And, Or, Implies, Since, Rsince, Not, Before, Rbefore, Once, Ronce, Always, Ralways, Rise, Fall, True, False, Step, Call, Begin, End, Return, Predicate, Routine}
+use Rattle.fixed_vec.specs.Elements.{elements}
+use Rattle.fixed_vec.specs.declared.vec.FixedVec.{FixedVec}
 use Rattle.grammar.specs.Grammar.{Tree, leaf, one, two}
 use Rattle.grammar.specs.Nodes.{nodes}
 use Rattle.reader.specs.Rules.{TreeOf, nodes_in}
@@ -84,9 +86,9 @@ module _ (p : Program) where
     runs_it : Runs p t
     runs_it = record {
       steps = tree_steps;
-      plain = p.all_plain ∙ ap (sources if_plain 0) tree_steps;
-      routine = p.all_routine ∙ ap (sources if_routine 0) tree_steps;
-      predicates = p.all_predicates ∙ (ap asked tree_steps ∙ plan_asked t 0 0 0);
+      plain = p.parts.all_plain ∙ ap (sources if_plain 0) tree_steps;
+      routine = p.parts.all_routine ∙ ap (sources if_routine 0) tree_steps;
+      predicates = p.parts.all_predicates ∙ (ap asked tree_steps ∙ plan_asked t 0 0 0);
     }
 
 pub runs : (p : Program) (t : Tree) → TreeOf p.rule t → Runs p t
@@ -141,14 +143,17 @@ sound_at i a b (s ∷ ss) (suc k) d S h =
 pub steps_some : (p : Program) → 0 < length (steps p)
 steps_some p = by_tree p le_prop (λ t r. omega (arith, ap length r.steps, plan_length 0 0 0 t, size_some t))
 
+elements_few : {T : Type 0} (v : FixedVec T 64) → length (elements v) ≤ 64
+elements_few v = omega (arith, length-take v.len v.items, v.within)
+
 pub steps_few : (p : Program) → length (steps p) ≤ 64
-steps_few p = omega (arith, length-take p.steps.len p.steps.items, p.few)
+steps_few p = elements_few p.parts.steps
 
 pub plain_few : (p : Program) → length (plain_numbers p) ≤ 64
-plain_few p = omega (arith, length-take p.plain.len p.plain.items, p.few_plain)
+plain_few p = elements_few p.parts.plain
 
 pub routine_few : (p : Program) → length (routine_numbers p) ≤ 64
-routine_few p = omega (arith, length-take p.routine.len p.routine.items, p.few_routine)
+routine_few p = elements_few p.parts.routine
 
 -- a cell keeps the value of its own step or of the one before
 source_most : (s : RuleStep) (i : ℕ) → source s i ≤ i
@@ -178,9 +183,9 @@ picks_routine (routine n) x us m d k l h f = one_below x us m d k l h f
 pub plain_below : (p : Program) (k d : ℕ) → k < length (plain_numbers p) → get_or (plain_numbers p) k d < length (steps p)
 plain_below p k d h =
     let P : List ℕ → Type 0 = λ l. k < length l → get_or l k d < length (steps p) in
-    subst P (sym p.all_plain) (sources_below if_plain picks_plain 0 (steps p) (length (steps p)) k d (omega arith)) h
+    subst P (sym p.parts.all_plain) (sources_below if_plain picks_plain 0 (steps p) (length (steps p)) k d (omega arith)) h
 
 pub routine_below : (p : Program) (k d : ℕ) → k < length (routine_numbers p) → get_or (routine_numbers p) k d < length (steps p)
 routine_below p k d h =
     let P : List ℕ → Type 0 = λ l. k < length l → get_or l k d < length (steps p) in
-    subst P (sym p.all_routine) (sources_below if_routine picks_routine 0 (steps p) (length (steps p)) k d (omega arith)) h
+    subst P (sym p.parts.all_routine) (sources_below if_routine picks_routine 0 (steps p) (length (steps p)) k d (omega arith)) h

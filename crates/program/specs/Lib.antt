@@ -1,3 +1,3 @@
 pub mod Planned
-pub mod Kept
+pub mod Parts
 pub mod Programs

@@ -1,22 +1,13 @@
 -- The steps of a rule from its nodes, one after another.
---   steps_in, numbers_in  the steps and the numbers that a program's parts hold
 --   node_step n a b       the step of a node; a and b are the numbers of its plain and of its routine cell; step_from makes it of its word's form
 --   plains s, routines s  how many plain and how many routine cells a step has
 --   planned a b ns        the steps of the nodes ns, whose first cells have the numbers a and b
 --   asked_by s, asked ss  how many predicates a reading must have for a step and for steps: one more than the greatest number of a `pN`
-use Rattle.std.specs.Prelude.{ℕ, suc, ◌+◌, max, List, [], ◌∷◌, length, take}
+use Rattle.std.specs.Prelude.{ℕ, suc, ◌+◌, max, List, [], ◌∷◌, length}
 use Rattle.grammar.specs.declared.Node.{Node}
 use Rattle.evaluation.specs.declared.Step.{Step}
 use Rattle.evaluation.specs.declared.Step.TheVariants.{True, False, Kind, Predicate, Routine, Not, And, Or, Implies, Before, Rbefore, Once, Ronce, Always, Ralways, Since, Rsince, Rise, Fall}
 use Rattle.evaluation.specs.Plan.{cell_of, if_plain, if_routine, Form, from_number, from_one, from_two, form}
-use Rattle.program.specs.declared.parts.Steps.{Steps}
-use Rattle.program.specs.declared.parts.Numbers.{Numbers}
-
-abbrev pub steps_in : Steps → List Step
-steps_in s = take s.len s.items
-
-abbrev pub numbers_in : Numbers → List ℕ
-numbers_in n = take n.len n.items
 
 -- from a word's number k, its left operand's number l and its cells
 abbrev pub step_from : Form → ℕ → ℕ → ℕ → ℕ → Step

@@ -1,6 +1,7 @@
 -- What a program holds of its rule.
 --   steps p         its steps, one for each node
 --   plain_numbers p, routine_numbers p  for each of its cells the number of the step whose value it keeps
+--   wanted p        how many predicates it asks for
 --   predicates t    how many predicates a reading must have for the rule with the tree t: one more than the greatest N of a `pN` in it
 --   HasAll n t      a reading of n values has one for each `pN` of the rule
 --   Runs p t        the program runs the rule with the tree t
@@ -9,21 +10,24 @@
 use Rattle.std.specs.Prelude.{◌≡◌, ℕ, suc, ◌<◌, max, List, [], ◌∷◌}
 use Rattle.words.specs.declared.Operator.{Operator}
 use Rattle.words.specs.declared.Operator.TheVariants.{And, Or, Implies, Since, Rsince, Not, Before, Rbefore, Once, Ronce, Always, Ralways, Rise, Fall, True, False, Step, Call, Begin, End, Return, Predicate, Routine}
+use Rattle.fixed_vec.specs.Elements.{elements}
 use Rattle.grammar.specs.Grammar.{Tree, leaf, one, two}
 use Rattle.evaluation.specs.declared.Step.{Step as RuleStep}
 use Rattle.evaluation.specs.Plan.{rule_plan, if_plain, if_routine}
 use Rattle.evaluation.specs.Steps.{sources}
-use Rattle.program.specs.Planned.{steps_in, numbers_in}
 use Rattle.program.specs.declared.program.Program.{Program}
 
 abbrev pub steps : Program → List RuleStep
-steps p = steps_in p.steps
+steps p = elements p.parts.steps
 
 abbrev pub plain_numbers : Program → List ℕ
-plain_numbers p = numbers_in p.plain
+plain_numbers p = elements p.parts.plain
 
 abbrev pub routine_numbers : Program → List ℕ
-routine_numbers p = numbers_in p.routine
+routine_numbers p = elements p.parts.routine
+
+abbrev pub wanted : Program → ℕ
+wanted p = p.parts.predicates
 
 -- how many a leaf asks for
 abbrev pub predicates_of : Operator → ℕ → ℕ
@@ -66,7 +70,7 @@ pub record Runs (p : Program) (t : Tree) : Type 0 where
   pub steps : steps p ≡ rule_plan t
   pub plain : plain_numbers p ≡ sources if_plain 0 (rule_plan t)
   pub routine : routine_numbers p ≡ sources if_routine 0 (rule_plan t)
-  pub predicates : p.predicates ≡ predicates t
+  pub predicates : wanted p ≡ predicates t
 
 abbrev pub Fits : RuleStep → ℕ → ℕ → ℕ → Type 0
 Fits RuleStep.True i a b = Unit {0}

@@ -1,7 +1,6 @@
 // A rule made ready to run.
 #![tactic(auto)]
 
-mod draft;
 mod making;
 mod parts;
 mod program;
@@ -9,11 +8,10 @@ mod program;
 ghost use Rattle.std.specs.Prelude.{◌≡◌, ℕ, ◌≤◌, ◌↔◌};
 ghost use Rattle.grammar.specs.Grammar.{Tree};
 ghost use Rattle.reader.specs.Rules.{TreeOf};
-ghost use Rattle.program.specs.Programs.{steps, plain_numbers, routine_numbers, predicates, HasAll, Runs};
+ghost use Rattle.program.specs.Programs.{steps, plain_numbers, routine_numbers, wanted, predicates, HasAll, Runs};
 
-use draft::Draft;
 use evaluation::Step;
-pub use parts::{Numbers, Steps};
+use parts::Parts;
 pub use program::Program;
 use reader::Rule;
 
@@ -23,18 +21,11 @@ impl Program {
         ensures rule { result.rule ≡ rule.now }
         ensures runs { (t : Tree) → TreeOf rule.now t → Runs result t }
     {
-        let mut draft = Draft::new();
+        let mut parts = Parts::new();
         for node in rule.nodes() {
-            let step = making::step_of(node, draft.plain.len as u8, draft.routine.len as u8);
-            draft.push(step);
+            parts.add(node);
         }
-        Program {
-            rule: *rule,
-            steps: draft.steps,
-            plain: draft.plain,
-            routine: draft.routine,
-            predicates: draft.predicates,
-        }
+        Program { rule: *rule, parts }
     }
 
     // The rule that this is the program of.
@@ -48,34 +39,32 @@ impl Program {
     pub fn steps(&self) -> &[Step]
         ensures value { result.now ≡ steps self.now }
     {
-        &self.steps.items[0..self.steps.len]
+        self.parts.steps.as_slice()
     }
 
     // For each plain cell, in order, the number of the step whose value it keeps.
     pub fn plain(&self) -> &[u8]
         ensures value { result.now ≡ plain_numbers self.now }
     {
-        &self.plain.items[0..self.plain.len]
+        self.parts.plain.as_slice()
     }
 
     // For each routine cell, in order, the number of the step whose value it keeps.
     pub fn routine(&self) -> &[u8]
         ensures value { result.now ≡ routine_numbers self.now }
     {
-        &self.routine.items[0..self.routine.len]
+        self.parts.routine.as_slice()
     }
 
     // How many predicates a reading must have.
     pub fn predicates(&self) -> usize
-        ensures value { result ≡ self.now.predicates }
+        ensures value { result ≡ wanted self.now }
     {
-        self.predicates
+        self.parts.predicates
     }
 }
 
 // A theorem about how many predicates a rule asks for: a reading has one for each `pN` of the rule exactly if it has so many.
-pub fn program_stands() -> u8
+pub fn program_stands()
     ensures asked { (n : ℕ) (t : Tree) → predicates t ≤ n ↔ HasAll n t }
-{
-    0
-}
+{}

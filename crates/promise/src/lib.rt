@@ -5,7 +5,7 @@ ghost use Rattle.promise.specs.ShutOut.{KeptBySome, FirstEventOnly, OneVerdict, 
 ghost use Rattle.promise.specs.Cases.{Worked};
 
 // Theorems about the promise alone: something keeps it, and nothing that keeps it is wrong in one of these ways.
-pub fn promise_stands() -> u8
+pub fn promise_stands()
     ensures kept_by_some { KeptBySome }
     ensures first_event_only { FirstEventOnly }
     ensures one_verdict { OneVerdict }
@@ -17,13 +17,9 @@ pub fn promise_stands() -> u8
     ensures too_deep_early { TooDeepEarly }
     ensures making_refused_without_cause { MakingRefusedWithoutCause }
     ensures making_refuses_all { MakingRefusesAll }
-{
-    0
-}
+{}
 
 // Worked cases of the definitions: texts, values along a reel, refusals and a margin.
-pub fn cases_stand() -> u8
+pub fn cases_stand()
     ensures worked { Worked }
-{
-    0
-}
+{}

@@ -5,9 +5,7 @@ ghost use Rattle.ptcaret.specs.Theorems.{ValueIsSatisfaction, AbstractPrefixIsPr
 
 // Theorems: a rule's two-valued value by looking back is whether the trace so far satisfies the rule,
 // and the two ways to find the call of a return agree.
-pub fn published_meaning_stands() -> u8
+pub fn published_meaning_stands()
     ensures stands { ValueIsSatisfaction }
     ensures cut { AbstractPrefixIsPrior }
-{
-    0
-}
+{}

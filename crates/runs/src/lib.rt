@@ -8,15 +8,11 @@ ghost use Rattle.runs.specs.Twins.{CarriesOver};
 use kinds::TruthKind;
 
 // A theorem about every run of a watcher of any kind.
-pub fn runs_stand<K: TruthKind>() -> u8
+pub fn runs_stand<K: TruthKind>()
     ensures looks_back { LooksBack K.TruthKind.algebra K.TruthKind.means }
-{
-    0
-}
+{}
 
 // A theorem about two runs whose readings are carried from one kind into another.
-pub fn twins_stand<K: TruthKind, L: TruthKind>() -> u8
+pub fn twins_stand<K: TruthKind, L: TruthKind>()
     ensures carries_over { CarriesOver K.TruthKind.algebra L.TruthKind.algebra K.TruthKind.means L.TruthKind.means }
-{
-    0
-}
+{}

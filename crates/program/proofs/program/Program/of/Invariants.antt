@@ -1,7 +1,12 @@
-use Rattle.std.proofs.Common.{◌≡◌, ◌++◌, drop}
-use Rattle.program.specs.Planned.{steps_in, planned}
+use Rattle.std.proofs.Common.{◌≡◌, length, drop}
+use Rattle.fixed_vec.specs.Elements.{elements}
+use Rattle.program.specs.Planned.{planned}
+use Rattle.program.specs.Parts.{comes_to}
 use Rattle.program.proofs.program.Program.of.Given as goal
 
--- the steps so far, with those of the nodes that are left, are the steps of all the nodes
+-- there are as many steps as nodes so far, and with the nodes that are left they come to the steps of all the nodes
 abbrev pub invariant-loop-node : goal.invariant-loop-node
-invariant-loop-node l = (l.draft.steps.len ≡ l.node-index) × (steps_in l.draft.steps ++ planned l.draft.plain.len l.draft.routine.len (drop l.node-index l.node-items) ≡ planned 0 0 l.node-items)
+invariant-loop-node l = record {
+  many : length (elements l.parts.steps) ≡ l.node-index;
+  comes : comes_to l.parts (drop l.node-index l.node-items) ≡ planned 0 0 l.node-items;
+}
