@@ -15,7 +15,8 @@ use Rattle.program.specs.Programs.{predicates, HasAll}
 use Rattle.program.proofs.Facts.{predicates_all}
 use Rattle.watching.specs.Faults.{max_events}
 use Rattle.watching.specs.declared.Verdict.{Verdict}
-use Rattle.watching.specs.declared.WatchFault.TheVariants.{NotInnermost}
+use Rattle.watching.specs.declared.EventFault.TheVariants.{NotInnermost}
+use Rattle.watching.specs.declared.WatchFault.TheVariants.{AtEvent}
 use Rattle.runs.specs.Runs.{Answer, if_accepted, accepted}
 use Rattle.promise.specs.ShutOut.{first_verdict, FirstEventOnly, OneVerdict, NoCells, SourceNotAsked, MadeUpNumbers, RefusedNumbered, RefusedWithoutCause, TooDeepEarly}
 use Rattle.promise.specs.Trees.{word, p}
@@ -122,7 +123,7 @@ unfolding accepted events
 refused_numbered t d f keeps wrong =
     let r = full t in
     let e = event End 7 in
-    let refused : f [] e r ≡ Err (NotInnermost 1) = refusal_is (f [] e r) (NotInnermost 1) (keeps [] none e r).fault in
+    let refused : f [] e r ≡ Err (AtEvent 1 NotInnermost) = refusal_is (f [] e r) (AtEvent 1 NotInnermost) (keeps [] none e r).fault in
     let nothing_accepted : past (put f [] e r) ≡ [] = ap (λ a. if_accepted a (asked e r) ++ []) refused in
     let F : Fed f [] = record { exchanges = put f [] e r; exchanged = more none e r; accepted = nothing_accepted } in
     let v = next f t d keeps F a_step_event r (full_has t) (omega arith) (one_step d) in

@@ -23,7 +23,7 @@ use Rattle.evaluation.proofs.Growing.{events_more}
 use Rattle.evaluation.proofs.Opened.{stack_height}
 use Rattle.evaluation.proofs.Orders.{plan_length}
 use Rattle.evaluation.proofs.Watching.{fresh_first, evaluated, copies}
-use Rattle.program.specs.Programs.{steps, Runs}
+use Rattle.program.specs.Programs.{wanted, Runs}
 use Rattle.program.specs.declared.program.Program.{Program}
 use Rattle.watching.specs.Memory.{Own, routine_cells, node_count, short_list}
 use Rattle.watching.specs.Refusals.{nest_of, routines_in}
@@ -96,8 +96,8 @@ module _ (A : Algebra) {K : Type 0} (means : K → A.Val) (p : Program) (t : Tre
         a : Accepted A means p n o w e r v n' o' w'
         a = g.1
 
-        free : Passes (short_list p n.limit o (length w)) (judged n.limit (nest_of n o.opened) e) p.predicates (length r) n.accepted
-        free = passes _ _ _ p.predicates (length r) n.accepted g.0
+        free : Passes (short_list p n.limit o (length w)) (judged n.limit (nest_of n o.opened) e) (wanted p) (length r) n.accepted
+        free = passes _ _ _ (wanted p) (length r) n.accepted g.0
 
         more : events grown ≡ events h ++ e ∷ []
         more = events_more h (moment A means e r)

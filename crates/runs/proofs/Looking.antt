@@ -11,7 +11,7 @@ use Rattle.reels.specs.declared.Event.{Event}
 use Rattle.reels.proofs.Begins.{refused_exactly}
 use Rattle.history.specs.Moments.{Moment, events}
 use Rattle.history.specs.Value.{value}
-use Rattle.program.specs.Programs.{predicates, HasAll, Runs}
+use Rattle.program.specs.Programs.{predicates, HasAll, wanted, Runs}
 use Rattle.program.specs.declared.program.Program.{Program}
 use Rattle.watching.specs.Faults.{max_events}
 use Rattle.watching.specs.Memory.{Own, short_list}
@@ -52,7 +52,7 @@ module _ (A : Algebra) {K : Type 0} (means : K → A.Val) where
 
       module _ (a : Answer K) (g : Given A means p n o w e r a n' o' w') where
         refusal_back : result_err a ≡ refusal_by (short_list p d o (length w)) (suc (length h)) (judged d (follow start (events h)) e) (predicates t) (length r) (length h)
-        refusal_back = error_is a g ∙ (ap₂ (λ l j. refusal_by (short_list p l o (length w)) (number_of n) j p.predicates (length r) n.accepted) c.limit (same_judged A means p t d L u c e) ∙ ap₂ (λ k m. refusal_by (short_list p d o (length w)) (suc k) (judged d (follow start (events h)) e) m (length r) k) c.accepted u.predicates)
+        refusal_back = error_is a g ∙ (ap₂ (λ l j. refusal_by (short_list p l o (length w)) (number_of n) j (wanted p) (length r) n.accepted) c.limit (same_judged A means p t d L u c e) ∙ ap₂ (λ k m. refusal_by (short_list p d o (length w)) (suc k) (judged d (follow start (events h)) e) m (length r) k) c.accepted u.predicates)
 
         refused_back : short_list p d o (length w) ≡ None → HasAll (length r) t → length h < max_events → (is_err a ≡ true) ↔ (Begins d (events h ++ e ∷ []) → ⊥)
         refused_back s q l =

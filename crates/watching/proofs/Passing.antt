@@ -7,9 +7,10 @@ use Rattle.program.specs.declared.program.Program.{Program}
 use Rattle.watching.specs.Faults.{max_events}
 use Rattle.watching.specs.Memory.{Own, plain_cells, routine_cells, node_count, short_list}
 use Rattle.watching.specs.Refusals.{first_of, fault_of, refusal_by}
+use Rattle.watching.specs.declared.EventFault.TheVariants.{MissingPredicate, TooManyEvents}
 use Rattle.watching.specs.declared.LentList.{LentList}
 use Rattle.watching.specs.declared.LentList.TheVariants.{Plain, Routine, Stack, Opened, Working}
-use Rattle.watching.specs.declared.WatchFault.TheVariants.{ListTooShort, MissingPredicate, TooManyEvents}
+use Rattle.watching.specs.declared.WatchFault.TheVariants.{ListTooShort, AtEvent}
 
 pub some_not_none : {X : Type 0} {x : X} → Path (Option X) (Some x) None → ⊥
 some_not_none {X} {x} q = let z : ◌≡◌ {A = ℕ} 0 1 = cc in omega arith
@@ -38,13 +39,13 @@ pub passes : (list : Option LentList) (i : ℕ) (nesting : Option Fault) (wanted
 passes list i nesting wanted r count q =
     let a = neither ListTooShort list _ q in
     let b = neither (fault_of i) nesting _ a.1 in
-    let c = found_not (ltb r wanted) (MissingPredicate i) _ b.1 in
-    record { short = a.0; fault = b.0; asked = ltb-false r wanted c.0; room = ltb-true count max_events (passed (ltb count max_events) (TooManyEvents i) c.1) }
+    let c = found_not (ltb r wanted) (AtEvent i MissingPredicate) _ b.1 in
+    record { short = a.0; fault = b.0; asked = ltb-false r wanted c.0; room = ltb-true count max_events (passed (ltb count max_events) (AtEvent i TooManyEvents) c.1) }
 
 -- with memory, predicates and numbers enough, only a fault of the nesting refuses
 pub only_fault : (i : ℕ) (nesting : Option Fault) (wanted r count : ℕ) → wanted ≤ r → count < max_events → refusal_by None i nesting wanted r count ≡ option_map (fault_of i) nesting
 only_fault i (Some f) wanted r count l m = refl
-only_fault i None wanted r count l m = ap₂ (λ x y. cond x (Some (MissingPredicate i)) (cond y None (Some (TooManyEvents i)))) (le-ltb r wanted l) (lt-ltb count max_events m)
+only_fault i None wanted r count l m = ap₂ (λ x y. cond x (Some (AtEvent i MissingPredicate)) (cond y None (Some (AtEvent i TooManyEvents)))) (le-ltb r wanted l) (lt-ltb count max_events m)
 
 -- every list is long enough
 pub record Long {V : Type 0} (p : Program) (d : ℕ) (o : Own V) (w : ℕ) : Type 0 where

@@ -1,5 +1,5 @@
 -- What holds where an event is taken by the nesting.
-use Rattle.std.proofs.Common.{◌≡◌, ℕ, pred, ◌+◌, ◌<◌, ◌≤◌, Bool, true, false, cond, List, [], ◌∷◌, length, Some, None, Option, arith}
+use Rattle.std.proofs.Common.{◌≡◌, ℕ, ◌<◌, Bool, true, false, cond, List, [], ◌∷◌, length, Some, None, Option, arith}
 use borrow.Author.Tests.{clash}
 use Rattle.reels.specs.Reels.{fit}
 use Rattle.reels.specs.Nesting.{Pending, calm, called, ended, Nest, Fault, unfit, in_turn, judged}

@@ -7,26 +7,26 @@
 --   plain_after, routine_after, stack_after, opened_after  the lists 1 to 4 after an accepted event
 --   Accepted          the answer to an accepted event, and the lists then
 --   Given             the answer to an event
-use Rattle.std.specs.Prelude.{◌≡◌, ℕ, suc, pred, ◌+◌, ◌-◌, ◌*◌, List, [], ◌++◌, map, length, take, drop, Some, None, Ok, Err, Result, slice_set}
+use Rattle.std.specs.Prelude.{◌≡◌, ℕ, suc, pred, ◌+◌, ◌-◌, ◌*◌, List, [], ◌++◌, map, length, take, drop, Some, None, Ok, Err, Option, Result, slice_set}
 use Rattle.std.specs.List.{slice_get}
 use Rattle.kinds.specs.Algebra.{Algebra}
 use Rattle.reels.specs.declared.Event.{Event}
 use Rattle.reels.specs.declared.EventKind.{EventKind}
 use Rattle.evaluation.specs.Plan.{if_plain, if_routine}
-use Rattle.evaluation.specs.Steps.{Cells, picked, evaluate, fresh_of}
+use Rattle.evaluation.specs.Steps.{picked, evaluate, fresh_of}
 use Rattle.program.specs.Programs.{steps, plain_numbers, routine_numbers}
 use Rattle.program.specs.declared.program.Program.{Program}
 use Rattle.watching.specs.Memory.{Own, plain_cells, routine_cells, node_count}
 use Rattle.watching.specs.Refusals.{making_refusal, refusal, number_of}
 use Rattle.watching.specs.declared.Due.{Due}
-use Rattle.watching.specs.declared.Due.TheVariants.{Nothing, Begin, Return}
+use Rattle.watching.specs.declared.Due.TheVariants.{Begin, Return}
 use Rattle.watching.specs.declared.Nesting.{Nesting}
 use Rattle.watching.specs.declared.OpenRoutine.{OpenRoutine}
 use Rattle.watching.specs.declared.Verdict.{Verdict}
 use Rattle.watching.specs.declared.WatchFault.{WatchFault}
 
 abbrev pub first_nesting : ℕ → Nesting
-first_nesting d = record { limit = d; accepted = 0; depth = 0; due = Nothing }
+first_nesting d = record { limit = d; accepted = 0; depth = 0; due = None }
 
 abbrev pub depth_after : EventKind → ℕ → ℕ
 depth_after EventKind.Step d = d
@@ -35,12 +35,12 @@ depth_after EventKind.Begin d = suc d
 depth_after EventKind.End d = pred d
 depth_after EventKind.Return d = d
 
-abbrev pub due_after : EventKind → ℕ → Due
-due_after EventKind.Step n = Nothing
-due_after EventKind.Call n = Begin n
-due_after EventKind.Begin n = Nothing
-due_after EventKind.End n = Return n
-due_after EventKind.Return n = Nothing
+abbrev pub due_after : EventKind → ℕ → Option Due
+due_after EventKind.Step n = None
+due_after EventKind.Call n = Some (Begin n)
+due_after EventKind.Begin n = None
+due_after EventKind.End n = Some (Return n)
+due_after EventKind.Return n = None
 
 abbrev pub next_nesting : Nesting → Event → Nesting
 next_nesting n e = record { limit = n.limit; accepted = suc n.accepted; depth = depth_after e.kind n.depth; due = due_after e.kind e.routine }

@@ -9,21 +9,23 @@ use Rattle.std.specs.Prelude.{ℕ, suc, cond, List, map, reverse, take, Some, No
 use Rattle.std.specs.Option.{option_map}
 use Rattle.reels.specs.Nesting.{Pending, calm, called, ended, Nest, Fault, unfit, after_call, after_end, stray, not_innermost, too_deep, judged}
 use Rattle.reels.specs.declared.Event.{Event}
+use Rattle.program.specs.Programs.{wanted}
 use Rattle.program.specs.declared.program.Program.{Program}
 use Rattle.watching.specs.Faults.{max_limit, max_events}
 use Rattle.watching.specs.Memory.{Own, short_list}
 use Rattle.watching.specs.declared.Due.{Due}
-use Rattle.watching.specs.declared.Due.TheVariants.{Nothing, Begin, Return}
+use Rattle.watching.specs.declared.Due.TheVariants.{Begin, Return}
+use Rattle.watching.specs.declared.EventFault.TheVariants.{UnfitRoutine, BeginDue, ReturnDue, Stray, NotInnermost, TooDeep, MissingPredicate, TooManyEvents}
 use Rattle.watching.specs.declared.LentList.{LentList}
 use Rattle.watching.specs.declared.Nesting.{Nesting}
 use Rattle.watching.specs.declared.OpenRoutine.{OpenRoutine}
 use Rattle.watching.specs.declared.WatchFault.{WatchFault}
-use Rattle.watching.specs.declared.WatchFault.TheVariants.{LimitTooHigh, ListTooShort, UnfitRoutine, BeginDue, ReturnDue, Stray, NotInnermost, TooDeep, MissingPredicate, TooManyEvents}
+use Rattle.watching.specs.declared.WatchFault.TheVariants.{LimitTooHigh, ListTooShort, AtEvent}
 
-abbrev pub pending_of : Due → Pending
-pending_of Nothing = calm
-pending_of (Begin n) = called n
-pending_of (Return n) = ended n
+abbrev pub pending_of : Option Due → Pending
+pending_of None = calm
+pending_of (Some (Begin n)) = called n
+pending_of (Some (Return n)) = ended n
 
 -- the numbers of the d routines that are open, the innermost first
 abbrev pub routines_in : ℕ → List OpenRoutine → List ℕ
@@ -40,12 +42,12 @@ first_of (Some x) y = Some x
 first_of None y = y
 
 abbrev pub fault_of : ℕ → Fault → WatchFault
-fault_of i unfit = UnfitRoutine i
-fault_of i after_call = BeginDue i
-fault_of i after_end = ReturnDue i
-fault_of i stray = Stray i
-fault_of i not_innermost = NotInnermost i
-fault_of i too_deep = TooDeep i
+fault_of i unfit = AtEvent i UnfitRoutine
+fault_of i after_call = AtEvent i BeginDue
+fault_of i after_end = AtEvent i ReturnDue
+fault_of i stray = AtEvent i Stray
+fault_of i not_innermost = AtEvent i NotInnermost
+fault_of i too_deep = AtEvent i TooDeep
 
 -- a limit that is too high comes first, then the first list that is too short
 abbrev pub making_refusal_by : ℕ → Option LentList → Option WatchFault
@@ -57,7 +59,7 @@ making_refusal p d o n = making_refusal_by d (short_list p d o n)
 -- of the event number i: first a list that is too short, then a fault of the nesting, then a predicate of the rule beyond
 -- the reading of r values, then the end of the event numbers
 abbrev pub refusal_by : Option LentList → ℕ → Option Fault → ℕ → ℕ → ℕ → Option WatchFault
-refusal_by short i fault asked r accepted = first_of (option_map ListTooShort short) (first_of (option_map (fault_of i) fault) (cond (nat_lt r asked) (Some (MissingPredicate i)) (cond (nat_lt accepted max_events) None (Some (TooManyEvents i)))))
+refusal_by short i fault asked r accepted = first_of (option_map ListTooShort short) (first_of (option_map (fault_of i) fault) (cond (nat_lt r asked) (Some (AtEvent i MissingPredicate)) (cond (nat_lt accepted max_events) None (Some (AtEvent i TooManyEvents)))))
 
 abbrev pub refusal : {V : Type 0} → Program → Nesting → Own V → ℕ → Event → ℕ → Option WatchFault
-refusal p n o w e r = refusal_by (short_list p n.limit o w) (number_of n) (judged n.limit (nest_of n o.opened) e) p.predicates r n.accepted
+refusal p n o w e r = refusal_by (short_list p n.limit o w) (number_of n) (judged n.limit (nest_of n o.opened) e) (wanted p) r n.accepted

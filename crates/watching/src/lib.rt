@@ -5,16 +5,17 @@
 ghost use Rattle.std.specs.Prelude.{◌≡◌};
 ghost use Rattle.watching.specs.Faults.{list_number, fault_number, fault_place};
 
+use refusal::Refusal;
+
 // The highest depth limit: how many routines may be open together at most.
 pub const MAX_LIMIT: usize = 256;
 
 // How many events a watcher accepts at most.
 pub const MAX_EVENTS: u32 = 16_777_215;
 
-// Which event has to come next: any, the begin of the routine just called, or the return of the one just ended.
+// The one event that may come next: the begin of the routine just called, or the return of the one just ended.
 #[derive(Clone, Copy, PartialEq, Eq, Debug)]
 pub enum Due {
-    Nothing,
     Begin(u16),
     Return(u16),
 }
@@ -27,7 +28,8 @@ pub struct Nesting {
     pub accepted: u32,
     // How many routines are open.
     pub depth: usize,
-    pub due: Due,
+    // What has to come next, where not every event may.
+    pub due: Option<Due>,
 }
 
 // A routine that has begun and not ended: its number, and the event number of its call.
@@ -53,14 +55,14 @@ pub struct Lists<'a, K> {
     pub working: &'a mut [K],
 }
 
-// One of the lists.
+// One of the lists, with its number.
 #[derive(Clone, Copy, PartialEq, Eq, Debug)]
 pub enum LentList {
-    Plain,
-    Routine,
-    Stack,
-    Opened,
-    Working,
+    Plain = 1,
+    Routine = 2,
+    Stack = 3,
+    Opened = 4,
+    Working = 5,
 }
 
 impl LentList {
@@ -68,13 +70,7 @@ impl LentList {
     pub fn number(&self) -> usize
         ensures value { result ≡ list_number self.now }
     {
-        match *self {
-            LentList::Plain => 1,
-            LentList::Routine => 2,
-            LentList::Stack => 3,
-            LentList::Opened => 4,
-            LentList::Working => 5,
-        }
+        *self as usize
     }
 }
 
@@ -85,63 +81,55 @@ pub struct Verdict<K> {
     pub value: K,
 }
 
-// Why a making or an event is refused. Faults of an event hold the number that it would have had.
+// What is wrong with an event, with the number that a refusal's line shows.
+#[derive(Clone, Copy, PartialEq, Eq, Debug)]
+pub enum EventFault {
+    // The routine number does not fit the kind.
+    UnfitRoutine = 31,
+    // After a call, anything but its begin.
+    BeginDue = 32,
+    // After an end, anything but its return.
+    ReturnDue = 33,
+    // Another begin or return.
+    Stray = 34,
+    // An end of another routine than the innermost.
+    NotInnermost = 35,
+    // A call while as many routines are open as the limit allows.
+    TooDeep = 36,
+    // The reading has no value for a predicate of the rule.
+    MissingPredicate = 30,
+    TooManyEvents = 37,
+}
+
+// Why a making or an event is refused.
 #[derive(Clone, Copy, PartialEq, Eq, Debug)]
 pub enum WatchFault {
     // A depth limit above the highest.
     LimitTooHigh,
     ListTooShort(LentList),
-    // The routine number does not fit the kind.
-    UnfitRoutine(u32),
-    // After a call, anything but its begin.
-    BeginDue(u32),
-    // After an end, anything but its return.
-    ReturnDue(u32),
-    // Another begin or return.
-    Stray(u32),
-    // An end of another routine than the innermost.
-    NotInnermost(u32),
-    // A call while as many routines are open as the limit allows.
-    TooDeep(u32),
-    // The reading has no value for a predicate of the rule.
-    MissingPredicate(u32),
-    TooManyEvents(u32),
+    // A fault of an event, and the number that it would have had.
+    AtEvent { number: u32, fault: EventFault },
 }
 
-impl WatchFault {
-    // The number that a refusal's line shows.
-    pub fn number(&self) -> u16
-        ensures value { result ≡ fault_number self.now }
-    {
-        match *self {
-            WatchFault::LimitTooHigh => 20,
-            WatchFault::ListTooShort(_) => 21,
-            WatchFault::UnfitRoutine(_) => 31,
-            WatchFault::BeginDue(_) => 32,
-            WatchFault::ReturnDue(_) => 33,
-            WatchFault::Stray(_) => 34,
-            WatchFault::NotInnermost(_) => 35,
-            WatchFault::TooDeep(_) => 36,
-            WatchFault::MissingPredicate(_) => 30,
-            WatchFault::TooManyEvents(_) => 37,
-        }
-    }
+// The place is the event's number, the list's number, or the highest limit.
+impl From<WatchFault> for Refusal {
+    ghost from_gives = { λ fault refusal. (refusal.number ≡ fault_number fault) × (refusal.place ≡ fault_place fault) };
 
-    // The event's number, the list's number, or the highest limit.
-    pub fn place(&self) -> usize
-        ensures value { result ≡ fault_place self.now }
-    {
-        match *self {
-            WatchFault::LimitTooHigh => MAX_LIMIT,
-            WatchFault::ListTooShort(list) => list.number(),
-            WatchFault::UnfitRoutine(event) => event as usize,
-            WatchFault::BeginDue(event) => event as usize,
-            WatchFault::ReturnDue(event) => event as usize,
-            WatchFault::Stray(event) => event as usize,
-            WatchFault::NotInnermost(event) => event as usize,
-            WatchFault::TooDeep(event) => event as usize,
-            WatchFault::MissingPredicate(event) => event as usize,
-            WatchFault::TooManyEvents(event) => event as usize,
+    fn from(fault: WatchFault) -> Refusal {
+        match fault {
+            WatchFault::LimitTooHigh => Refusal {
+                number: 20,
+                place: MAX_LIMIT,
+            },
+            WatchFault::ListTooShort(list) => Refusal {
+                number: 21,
+                place: list.number(),
+            },
+            // There is no `usize::from` of a u32.
+            WatchFault::AtEvent { number, fault } => Refusal {
+                number: fault as u16,
+                place: number as usize,
+            },
         }
     }
 }
