@@ -1,5 +1,7 @@
 -- The open routines' calls have the numbers of the nest's open routines.
-use Rattle.std.proofs.Common.{◌≡◌, ℕ, Bool, true, false, cond, ◌||◌, List, [], ◌∷◌, map, length, get_or, Some, None, Option, sym, refl, ap, ◌∙◌}
+use Rattle.std.proofs.Common.{◌≡◌, ℕ, Bool, true, false, cond, ◌||◌, List, [], ◌∷◌, map, length, get_or, None, sym, refl, ap, ◌∙◌}
+use Rattle.reels.proofs.Tests.{passed_both}
+use Rattle.std.proofs.lemmas.Option.{none-some}
 use lib.ListN.{length-map, length-reverse}
 use Rattle.grammar.specs.Grammar.{Tree}
 use Rattle.kinds.specs.Algebra.{Algebra}
@@ -7,8 +9,7 @@ use Rattle.reels.specs.declared.Event.{Event}
 use Rattle.reels.specs.declared.EventKind.{EventKind}
 use Rattle.reels.specs.declared.EventKind.TheVariants.{Step, Call, Begin, End, Return}
 use Rattle.reels.specs.Reels.{Begins, fit}
-use Rattle.reels.specs.Nesting.{Pending, calm, called, ended, Nest, start, Fault, unfit, outer, in_turn, onward, next, Takes, follow}
-use Rattle.reels.proofs.Rests.{some_none}
+use Rattle.reels.specs.Nesting.{Pending, calm, called, ended, Nest, start, unfit, outer, in_turn, onward, next, Takes, follow}
 use Rattle.reels.proofs.Taken.{begins_taken}
 use Rattle.history.specs.Moments.{Moment, events, blank, numbered, same_kind, is}
 use Rattle.history.specs.Calls.{calls, routine_at, with_due}
@@ -21,22 +22,18 @@ is_due calm = false
 is_due (called n) = true
 is_due (ended n) = true
 
-taken : (b : Bool) (o : Option Fault) → cond b o (Some unfit) ≡ None → o ≡ None
-taken true o q = q
-taken false o q = absurd (some_none q)
-
 -- what is due after an event that is taken: its kind says
 due_after_lem : (d : ℕ) (ns : List ℕ) (pd : Pending) (k : EventKind) (m : ℕ) → in_turn d ns pd k m ≡ None → (same_kind Call k || same_kind End k) ≡ is_due (onward (record { opened = ns; pending = pd }) k m).pending
 due_after_lem d ns calm Step m q = refl
-due_after_lem d ns (called n) Step m q = absurd (some_none q)
-due_after_lem d ns (ended n) Step m q = absurd (some_none q)
+due_after_lem d ns (called n) Step m q = absurd (none-some _ (sym q))
+due_after_lem d ns (ended n) Step m q = absurd (none-some _ (sym q))
 due_after_lem d ns pd Call m q = refl
 due_after_lem d ns pd Begin m q = refl
 due_after_lem d ns pd End m q = refl
 due_after_lem d ns pd Return m q = refl
 
 due_last : (d : ℕ) (x : Event) (es : List Event) (s : Nest) → Takes d s (x ∷ es) → (is Call (get_or (x ∷ es) (length es) blank) || is End (get_or (x ∷ es) (length es) blank)) ≡ is_due (follow s (x ∷ es)).pending
-due_last d x [] s q = due_after_lem d s.opened s.pending x.kind x.routine (taken (fit x) _ q.0)
+due_last d x [] s q = due_after_lem d s.opened s.pending x.kind x.routine (passed_both (fit x) _ unfit q.0).1
 due_last d x (y ∷ es) s q = due_last d y es (next s x) q.1
 
 due_now : (d : ℕ) (es : List Event) → Takes d start es → (last_is Call es || last_is End es) ≡ is_due (follow start es).pending

@@ -1,7 +1,6 @@
 -- What keeps the promise accepts the events with which a reel begins, and so comes to any moments that a proof asks for.
 --   Fed h      exchanges came about in which just the moments h were accepted
-use Rattle.std.proofs.Common.{◌≡◌, ℕ, suc, ◌+◌, ◌<◌, ◌≤◌, true, List, [], ◌∷◌, ◌++◌, map, length, is_err, Some, Ok, Err, sym, refl, ap, ◌∙◌, subst, append_assoc, append-nil, arith, length-append}
-use Rattle.std.specs.Result.{result_err}
+use Rattle.std.proofs.Common.{◌≡◌, ℕ, suc, ◌+◌, ◌<◌, ◌≤◌, true, List, [], ◌∷◌, ◌++◌, map, length, is_err, Ok, Err, sym, refl, ap, ◌∙◌, subst, append_assoc, append-nil, arith, length-append}
 use Rattle.grammar.specs.Grammar.{Tree}
 use Rattle.kinds.specs.Two.{two, two_means}
 use Rattle.kinds.specs.declared.two.Two.{Two}
@@ -13,18 +12,12 @@ use Rattle.evaluation.proofs.Growing.{events_more}
 use Rattle.program.specs.Programs.{HasAll}
 use Rattle.watching.specs.Faults.{max_events}
 use Rattle.watching.specs.declared.Verdict.{Verdict}
-use Rattle.watching.specs.declared.WatchFault.{WatchFault}
 use Rattle.runs.specs.Runs.{Answer, Exchange, if_accepted, moment, accepted}
 use Rattle.runs.proofs.Looking.{accepted_push}
-use Rattle.watching.proofs.Passing.{some_not_none}
 use Rattle.promise.specs.Watchers.{Answering, put, Exchanged, none, more, past, Gives, Keeps}
 
 abbrev pub asked : Event → List Two → Moment two.Val
 asked e r = moment two two_means e r
-
-pub refusal_is : (a : Answer Two) (g : WatchFault) → result_err a ≡ Some g → a ≡ Err g
-refusal_is (Ok v) g e = absurd (some_not_none (sym e))
-refusal_is (Err i) g e = cc
 
 not_refused : (a : Answer Two) → (is_err a ≡ true → ⊥) → (v : Verdict Two) × (a ≡ Ok v)
 not_refused (Ok v) n = (v, refl)

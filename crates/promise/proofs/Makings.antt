@@ -1,5 +1,6 @@
 -- A making with memory enough is not refused, and there is memory enough for every program.
 use Rattle.std.proofs.Common.{◌≡◌, ℕ, ◌*◌, ◌≤◌, Bool, true, false, cond, ltb, List, length, replicate, is_err, Some, None, Ok, Err, Option, Result, sym, refl, ap, ◌∙◌, arith}
+use Rattle.std.proofs.lemmas.Option.{none-some}
 use Rattle.std.proofs.lemmas.Bool.{le-ltb}
 use lib.ListN.{length-replicate}
 use Rattle.std.specs.Option.{option_map}
@@ -17,7 +18,6 @@ use Rattle.watching.specs.declared.Nesting.{Nesting}
 use Rattle.watching.specs.declared.OpenRoutine.{OpenRoutine}
 use Rattle.watching.specs.declared.WatchFault.{WatchFault}
 use Rattle.watching.specs.declared.WatchFault.TheVariants.{LimitTooHigh, ListTooShort}
-use Rattle.watching.proofs.Passing.{some_not_none}
 use Rattle.promise.specs.ShutOut.{MakingRefusedWithoutCause, MakingRefusesAll}
 
 module _ (p : Program) (d : ℕ) (o : Own Two) (w : List Two) (low : d ≤ max_limit) where
@@ -26,7 +26,7 @@ module _ (p : Program) (d : ℕ) (o : Own Two) (w : List Two) (low : d ≤ max_l
 
   made : (a : Result Nesting WatchFault) (o' : Own Two) (w' : List Two) → Made two two_means p d o w a o' w' → short_list p d o (length w) ≡ None → is_err a ≡ true → ⊥
   made (Ok n) o' w' m enough e = let z : ◌≡◌ {A = ℕ} 0 1 = cc in omega arith
-  made (Err g) o' w' m enough e = some_not_none (sym m.0 ∙ no_cause enough)
+  made (Err g) o' w' m enough e = none-some _ (sym (sym m.0 ∙ no_cause enough))
 
 pub making_refused_without_cause : MakingRefusedWithoutCause
 making_refused_without_cause m makes p d o w low enough e =

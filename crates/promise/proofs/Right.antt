@@ -1,5 +1,6 @@
 -- An answering by the definitions themselves: it keeps the promise.
 use Rattle.std.proofs.Common.{◌≡◌, ℕ, suc, ◌<◌, Bool, true, false, ◌↔◌, List, [], ◌∷◌, ◌++◌, length, is_err, Some, None, Ok, Err, Option, sym, refl, ap, ◌∙◌, subst, append-nil}
+use Rattle.std.proofs.lemmas.Option.{none-some}
 use Rattle.std.specs.Result.{result_err}
 use Rattle.grammar.specs.Grammar.{Tree}
 use Rattle.kinds.specs.Two.{two, two_means}
@@ -21,7 +22,7 @@ use Rattle.watching.specs.declared.WatchFault.{WatchFault}
 use Rattle.runs.specs.Runs.{Answer, Exchange, if_accepted, accepted}
 use Rattle.runs.specs.Promise.{Answered}
 use Rattle.runs.proofs.Looking.{accepted_push, err_fault}
-use Rattle.watching.proofs.Passing.{some_not_none, passes, only_fault}
+use Rattle.watching.proofs.Passing.{passes, only_fault}
 use Rattle.promise.specs.ShutOut.{KeptBySome}
 use Rattle.promise.specs.Watchers.{Answering, Exchanged, none, more, past}
 use Rattle.promise.proofs.Feeding.{asked}
@@ -44,7 +45,7 @@ is_refusal (Some g) v = refl
 
 is_verdict : (o : Option WatchFault) (v u : Verdict Two) → unless_refused o v ≡ Ok u → v ≡ u
 is_verdict None v u q = cc
-is_verdict (Some g) v u q = absurd (some_not_none (ap result_err q))
+is_verdict (Some g) v u q = absurd (none-some _ (sym (ap result_err q)))
 
 module _ (t : Tree) (d : ℕ) where
   abbrev refusal_of : List (Moment two.Val) → Event → List Two → Option WatchFault

@@ -21,7 +21,8 @@ use Rattle.runs.specs.Runs.{Answer, if_accepted, accepted}
 use Rattle.promise.specs.ShutOut.{first_verdict, FirstEventOnly, OneVerdict, NoCells, SourceNotAsked, MadeUpNumbers, RefusedNumbered, RefusedWithoutCause, TooDeepEarly}
 use Rattle.promise.specs.Trees.{word, p}
 use Rattle.promise.specs.Watchers.{Answering, put, none, more, past, Keeps}
-use Rattle.promise.proofs.Feeding.{refusal_is, asked, Fed, unfed, Next, next, fed_next, walk}
+use Rattle.runs.proofs.Twinned.{error_of}
+use Rattle.promise.proofs.Feeding.{asked, Fed, unfed, Next, next, fed_next, walk}
 use Rattle.promise.proofs.Reached.{a_walk, steps_begin, step_begins, calls, calls_length, calls_begin, call_begins, calls_open}
 
 abbrev a_step_event : Event
@@ -123,7 +124,7 @@ unfolding accepted events
 refused_numbered t d f keeps wrong =
     let r = full t in
     let e = event End 7 in
-    let refused : f [] e r ≡ Err (AtEvent 1 NotInnermost) = refusal_is (f [] e r) (AtEvent 1 NotInnermost) (keeps [] none e r).fault in
+    let refused : f [] e r ≡ Err (AtEvent 1 NotInnermost) = error_of (f [] e r) (AtEvent 1 NotInnermost) (keeps [] none e r).fault in
     let nothing_accepted : past (put f [] e r) ≡ [] = ap (λ a. if_accepted a (asked e r) ++ []) refused in
     let F : Fed f [] = record { exchanges = put f [] e r; exchanged = more none e r; accepted = nothing_accepted } in
     let v = next f t d keeps F a_step_event r (full_has t) (omega arith) (one_step d) in

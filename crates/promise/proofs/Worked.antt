@@ -11,7 +11,7 @@ use Rattle.history.specs.Value.{earlier, before, value}
 use Rattle.watching.specs.declared.EventFault.TheVariants.{BeginDue, NotInnermost}
 use Rattle.watching.specs.declared.WatchFault.TheVariants.{AtEvent}
 use Rattle.promise.specs.Cases.{Worked}
-use Rattle.promise.proofs.Feeding.{refusal_is}
+use Rattle.runs.proofs.Twinned.{error_of}
 
 pub worked : Worked
 unfolding value events readings numbered tally open_at latest over call_of hides seen prior before earlier lookup lexemes items_of step unit_done depth runs outcome
@@ -24,8 +24,8 @@ worked = record {
   rise_p0 = record { reads = accepted_sound _ _ refl; values = refl };
   empty_text = (EndsEarly 0, refused_sound _ _ refl, refl, refl);
   without_parentheses = (Misplaced 10, refused_sound _ _ refl, refl, refl);
-  end_first = λ t d r a k. (AtEvent 1 NotInnermost, refusal_is a (AtEvent 1 NotInnermost) k.fault, refl, refl);
-  begin_of_another = λ t d r a k. (AtEvent 2 BeginDue, refusal_is a (AtEvent 2 BeginDue) k.fault, refl, refl);
+  end_first = λ t d r a k. (AtEvent 1 NotInnermost, error_of a (AtEvent 1 NotInnermost) k.fault, refl, refl);
+  begin_of_another = λ t d r a k. (AtEvent 2 BeginDue, error_of a (AtEvent 2 BeginDue) k.fault, refl, refl);
   margin_text = accepted_sound _ _ refl;
   margin_15 = refl;
 }

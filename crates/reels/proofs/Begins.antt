@@ -1,5 +1,6 @@
 -- The events that a nest takes are those that begin a reel, and its refusals follow.
 use Rattle.std.proofs.Common.{◌≡◌, ℕ, suc, ◌+◌, ◌<◌, Bool, true, false, cond, eqb, ltb, List, [], ◌∷◌, ◌++◌, length, Some, None, Option, sym, refl, ap, ◌∙◌, subst, arith, lt-ltb}
+use Rattle.std.proofs.lemmas.Option.{none-some}
 use Rattle.reels.specs.Reels.{fit, Begins}
 use Rattle.reels.specs.Nesting.{Pending, calm, called, ended, Nest, start, Fault, unfit, after_call, after_end, stray, not_innermost, too_deep, unless, is_begin, is_return, innermost, in_turn, judged, next, Takes, follow, TakenBegins, RefusedExactly, TooDeepExactly}
 use Rattle.reels.specs.declared.Event.{Event}
@@ -7,7 +8,7 @@ use Rattle.reels.specs.declared.EventKind.{EventKind}
 use Rattle.reels.specs.declared.EventKind.TheVariants.{Step, Call, Begin, End, Return}
 use Rattle.reels.proofs.Depth.{begins_deeper}
 use Rattle.reels.proofs.Taken.{begins_taken}
-use Rattle.reels.proofs.Rests.{some_none, taken_begins}
+use Rattle.reels.proofs.Rests.{taken_begins}
 
 pub taken_exactly : TakenBegins
 taken_exactly d es = (taken_begins d es, begins_taken d es)
@@ -33,7 +34,7 @@ refusal (Some f) n = (f, refl)
 
 pub refused_exactly : RefusedExactly
 refused_exactly d es e b = (
-  (λ r c. some_none (sym r.1 ∙ begins_event d es e c)),
+  (λ r c. none-some _ (sym (sym r.1 ∙ begins_event d es e c))),
   (λ n. refusal (judged d (follow start es) e) (λ j. n (event_begins d es e b j))),
 )
 

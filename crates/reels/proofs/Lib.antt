@@ -1,3 +1,4 @@
+pub mod Tests
 pub mod Depth
 pub mod Taken
 pub mod Rests

@@ -1,28 +1,14 @@
 -- What may still follow a nest, and that what a nest takes begins a reel.
 --   Rest ns fs        behind a nest where nothing is due and the routines ns are open, the events fs end a reel
 --   Completes s fs    behind the nest s, the events fs end a reel
-use Rattle.std.proofs.Common.{◌≡◌, ℕ, suc, ◌-◌, ◌<◌, ◌≤◌, Bool, true, false, cond, eqb, ltb, List, [], ◌∷◌, ◌++◌, length, Some, None, Option, sym, refl, ap, ◌∙◌, subst, append_assoc, arith, ltb-true, eqb-true, leb-true}
+use Rattle.std.proofs.Common.{◌≡◌, ℕ, suc, ◌-◌, ◌<◌, ◌≤◌, true, eqb, ltb, List, [], ◌∷◌, ◌++◌, length, None, sym, refl, ap, ◌∙◌, subst, append_assoc, arith, ltb-true, eqb-true, leb-true}
+use Rattle.reels.proofs.Tests.{passed, passed_both}
+use Rattle.std.proofs.lemmas.Option.{none-some}
 use Rattle.reels.specs.Reels.{fits, event, Reel, nothing, a_step, a_routine, Begins}
-use Rattle.reels.specs.Nesting.{Pending, calm, called, ended, Nest, start, Fault, unfit, after_call, after_end, not_innermost, too_deep, unless, in_turn, onward, next, Takes, follow}
+use Rattle.reels.specs.Nesting.{Pending, calm, called, ended, Nest, start, unfit, after_call, after_end, not_innermost, too_deep, in_turn, onward, next, Takes, follow}
 use Rattle.reels.specs.declared.Event.{Event}
 use Rattle.reels.specs.declared.EventKind.{EventKind}
 use Rattle.reels.specs.declared.EventKind.TheVariants.{Step, Call, Begin, End, Return}
-
-abbrev IsNone : Option Fault → Type 0
-IsNone None = Unit {0}
-IsNone (Some f) = ⊥
-
-pub some_none : {f : Fault} → Path (Option Fault) (Some f) None → ⊥
-some_none e = subst IsNone (sym e) tt
-
--- what is not refused passed the test
-passed : (b : Bool) (f : Fault) → unless b f ≡ None → b ≡ true
-passed true f e = refl
-passed false f e = absurd (some_none e)
-
-was_fair : (b : Bool) (o : Option Fault) → cond b o (Some unfit) ≡ None → (b ≡ true) × (o ≡ None)
-was_fair true o e = (refl, e)
-was_fair false o e = absurd (some_none e)
 
 -- a routine's events around those inside it
 abbrev routine : ℕ → List Event → List Event
@@ -79,21 +65,21 @@ module _ (d : ℕ) where
   back : (ns : List ℕ) (p : Pending) (k : EventKind) (m : ℕ) (fs : List Event) → fits k m ≡ true → in_turn d ns p k m ≡ None → Completes (onward (record { opened = ns; pending = p }) k m) fs → Due ns p (event k m ∷ fs)
   back ns calm Step m fs f e c = subst (λ n. Rest ns (event Step n ∷ fs)) (sym (eqb-true m 0 f)) (back_step ns fs c)
   back ns calm Call m fs f e c = back_call ns fs m (leb-true 1 m f) (ltb-true (length ns) d (passed (ltb (length ns) d) too_deep e)) c
-  back ns calm Begin m fs f e c = absurd (some_none e)
-  back [] calm End m fs f e c = absurd (some_none e)
+  back ns calm Begin m fs f e c = absurd (none-some _ (sym e))
+  back [] calm End m fs f e c = absurd (none-some _ (sym e))
   back (n ∷ ns) calm End m fs f e c = back_end ns fs n m (eqb-true n m (passed (eqb n m) not_innermost e)) c
-  back ns calm Return m fs f e c = absurd (some_none e)
-  back ns (called n) Step m fs f e c = absurd (some_none e)
-  back ns (called n) Call m fs f e c = absurd (some_none e)
+  back ns calm Return m fs f e c = absurd (none-some _ (sym e))
+  back ns (called n) Step m fs f e c = absurd (none-some _ (sym e))
+  back ns (called n) Call m fs f e c = absurd (none-some _ (sym e))
   back ns (called n) Begin m fs f e c =
       let q = sym (eqb-true n m (passed (eqb n m) after_call e)) in
       (fs, ap (λ k. event Begin k ∷ fs) q, subst (λ k. Rest (k ∷ ns) fs) q c)
-  back ns (called n) End m fs f e c = absurd (some_none e)
-  back ns (called n) Return m fs f e c = absurd (some_none e)
-  back ns (ended n) Step m fs f e c = absurd (some_none e)
-  back ns (ended n) Call m fs f e c = absurd (some_none e)
-  back ns (ended n) Begin m fs f e c = absurd (some_none e)
-  back ns (ended n) End m fs f e c = absurd (some_none e)
+  back ns (called n) End m fs f e c = absurd (none-some _ (sym e))
+  back ns (called n) Return m fs f e c = absurd (none-some _ (sym e))
+  back ns (ended n) Step m fs f e c = absurd (none-some _ (sym e))
+  back ns (ended n) Call m fs f e c = absurd (none-some _ (sym e))
+  back ns (ended n) Begin m fs f e c = absurd (none-some _ (sym e))
+  back ns (ended n) End m fs f e c = absurd (none-some _ (sym e))
   back ns (ended n) Return m fs f e c = (fs, ap (λ k. event Return k ∷ fs) (sym (eqb-true n m (passed (eqb n m) after_end e))), c)
 
   -- every nest completes: the open routines end, the innermost first
@@ -115,7 +101,7 @@ module _ (d : ℕ) where
   taken_completes : (s : Nest) (es fs : List Event) → Takes d s es → Completes (follow s es) fs → Completes s (es ++ fs)
   taken_completes s [] fs t c = c
   taken_completes s (e ∷ es) fs t c =
-      let w = was_fair (fits e.kind e.routine) (in_turn d s.opened s.pending e.kind e.routine) t.0 in
+      let w = passed_both (fits e.kind e.routine) (in_turn d s.opened s.pending e.kind e.routine) unfit t.0 in
       back s.opened s.pending e.kind e.routine (es ++ fs) w.0 w.1 (taken_completes (next s e) es fs t.1 c)
 
   pub taken_begins : (es : List Event) → Takes d start es → Begins d es

@@ -1,5 +1,6 @@
 -- In every run of a watcher, every event is answered by looking back.
 use Rattle.std.proofs.Common.{◌≡◌, ℕ, suc, ◌<◌, true, ◌↔◌, List, [], ◌∷◌, ◌++◌, length, is_err, Some, None, Ok, Err, Option, sym, refl, ap, ◌∙◌, subst, ap₂, append_assoc, append-nil}
+use Rattle.std.proofs.lemmas.Option.{none-some}
 use borrow.Author.Tests.{clash}
 use Rattle.std.specs.Option.{option_map}
 use Rattle.std.specs.Result.{result_err}
@@ -23,14 +24,14 @@ use Rattle.watching.specs.declared.WatchFault.{WatchFault}
 use Rattle.runs.specs.Runs.{Answer, Exchange, if_accepted, moment, accepted, Run, made, given}
 use Rattle.runs.specs.Promise.{Answered, LooksBack}
 use Rattle.program.proofs.Facts.{runs, predicates_all}
-use Rattle.watching.proofs.Passing.{some_not_none, only_fault}
+use Rattle.watching.proofs.Passing.{only_fault}
 use Rattle.runs.proofs.Holding.{Holds, holds_made, same_judged, value_back, number_back, holds_accepted}
 
 -- an answer is a refusal exactly where there is a fault
 pub err_fault : {K : Type 0} (f : Fault → WatchFault) (a : Answer K) (x : Option Fault) → result_err a ≡ option_map f x → (is_err a ≡ true) ↔ ((i : Fault) × (x ≡ Some i))
-err_fault f (Ok v) None q = ((λ z. absurd (clash z)), (λ z. absurd (some_not_none (sym z.1))))
-err_fault f (Ok v) (Some i) q = absurd (some_not_none (sym q))
-err_fault f (Err g) None q = absurd (some_not_none q)
+err_fault f (Ok v) None q = ((λ z. absurd (clash z)), (λ z. absurd (none-some _ z.1)))
+err_fault f (Ok v) (Some i) q = absurd (none-some _ q)
+err_fault f (Err g) None q = absurd (none-some _ (sym q))
 err_fault f (Err g) (Some i) q = ((λ z. (i, refl)), (λ z. refl))
 
 module _ (A : Algebra) {K : Type 0} (means : K → A.Val) where

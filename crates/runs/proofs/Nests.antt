@@ -1,14 +1,14 @@
 -- The nest that a watcher keeps, over an event that is taken.
 use Rattle.std.proofs.Common.{◌≡◌, ℕ, zero, suc, pred, ◌+◌, ◌<◌, ◌≤◌, true, List, [], ◌∷◌, ◌++◌, map, reverse, length, take, None, sym, refl, ap, ◌∙◌, ap₂, arith, length-take, take-suc-set}
+use Rattle.std.proofs.lemmas.Option.{none-some}
 use mathlib.Core.List.{reverse-append}
 use lib.ListN.{length-map, length-reverse}
 use Rattle.std.proofs.lemmas.List.{take_more, map_push}
 use Rattle.reels.specs.Reels.{Begins, fit}
-use Rattle.reels.specs.Nesting.{Pending, calm, called, ended, Nest, start, in_turn, judged, outer, onward, next, follow}
+use Rattle.reels.specs.Nesting.{Pending, calm, called, ended, Nest, start, unfit, in_turn, judged, outer, onward, next, follow}
 use Rattle.reels.specs.declared.Event.{Event}
 use Rattle.reels.specs.declared.EventKind.{EventKind}
 use Rattle.reels.specs.declared.EventKind.TheVariants.{Step, Call, Begin, End, Return}
-use Rattle.reels.proofs.Rests.{some_none}
 use Rattle.history.specs.Moments.{same_kind, is}
 use Rattle.history.specs.Calls.{calls, routine_at, with_due}
 use Rattle.history.proofs.Nests.{nest_matching}
@@ -18,7 +18,7 @@ use Rattle.watching.specs.Refusals.{pending_of, routines_in, nest_of}
 use Rattle.watching.specs.Calls.{depth_after, due_after, next_nesting, opened_after}
 use Rattle.watching.specs.declared.Nesting.{Nesting}
 use Rattle.watching.specs.declared.OpenRoutine.{OpenRoutine}
-use Rattle.watching.proofs.Taken.{fit_taken}
+use Rattle.reels.proofs.Tests.{passed_both}
 
 pub follow_last : (s : Nest) (es : List Event) (e : Event) → follow s (es ++ e ∷ []) ≡ next (follow s es) e
 follow_last s [] e = refl
@@ -40,8 +40,8 @@ open_within d es b =
 -- what is due
 pending_after : (d : ℕ) (ns : List ℕ) (pd : Pending) (k : EventKind) (m : ℕ) → in_turn d ns pd k m ≡ None → pending_of (due_after k m) ≡ (onward (record { opened = ns; pending = pd }) k m).pending
 pending_after d ns calm Step m q = refl
-pending_after d ns (called n) Step m q = absurd (some_none q)
-pending_after d ns (ended n) Step m q = absurd (some_none q)
+pending_after d ns (called n) Step m q = absurd (none-some _ (sym q))
+pending_after d ns (ended n) Step m q = absurd (none-some _ (sym q))
 pending_after d ns pd Call m q = refl
 pending_after d ns pd Begin m q = refl
 pending_after d ns pd End m q = refl
@@ -88,4 +88,4 @@ module _ (p : Program) (n : Nesting) {V : Type 0} (o : Own V) (deep : n.depth �
   pub nest_after : (d : ℕ) (e : Event) → judged d (nest_of n o.opened) e ≡ None → (is Begin e ≡ true → n.depth < length o.opened) → nest_of (next_nesting n e) (opened_after p n o e.kind e.routine) ≡ next (nest_of n o.opened) e
   nest_after d e q l =
       let s = nest_of n o.opened in
-      ap₂ {C = Nest} (λ x y. record { opened = x; pending = y }) (opened_after_lem s refl e.kind e.routine l) (pending_after d s.opened s.pending e.kind e.routine (fit_taken (fit e) _ q))
+      ap₂ {C = Nest} (λ x y. record { opened = x; pending = y }) (opened_after_lem s refl e.kind e.routine l) (pending_after d s.opened s.pending e.kind e.routine (passed_both (fit e) _ unfit q).1)

@@ -1,5 +1,6 @@
 -- In two runs whose readings are carried from one kind into another, every answer is the same.
 use Rattle.std.proofs.Common.{◌≡◌, ℕ, suc, List, [], ◌∷◌, ◌++◌, map, length, Some, None, Ok, Err, Option, sym, refl, ap, ◌∙◌, subst, ap₂, append-nil}
+use Rattle.std.proofs.lemmas.Option.{none-some}
 use mathlib.Core.List.{map-append}
 use lib.ListN.{length-map}
 use Rattle.std.specs.Result.{result_err}
@@ -26,11 +27,10 @@ use Rattle.runs.specs.Runs.{Answer, Exchange, if_accepted, moment, accepted, Run
 use Rattle.runs.specs.Promise.{Answered}
 use Rattle.runs.specs.Twins.{SameAnswer, Alike, AllAlike, AllSame, CarriesOver}
 use Rattle.runs.proofs.Keeping.{map_map}
-use Rattle.watching.proofs.Passing.{some_not_none}
 use Rattle.runs.proofs.Looking.{accepted_push, looks_back}
 
-error_of : {K : Type 0} (a : Answer K) (f : WatchFault) → result_err a ≡ Some f → a ≡ Err f
-error_of (Ok v) f q = absurd (some_not_none (sym q))
+pub error_of : {K : Type 0} (a : Answer K) (f : WatchFault) → result_err a ≡ Some f → a ≡ Err f
+error_of (Ok v) f q = absurd (none-some _ q)
 error_of (Err g) f q = cc
 
 -- with memory enough no list was too short
@@ -88,8 +88,8 @@ module _ (A B : Algebra) {K L : Type 0} (p : K → A.Val) (q : L → B.Val) (c :
             let i = suc (length h) in
             let back : f (value A t (h ++ moment A p e r ∷ []) i) ≡ value B t (k ++ moment B q e' r' ∷ []) i = value_carried A B f kept t (h ++ moment A p e r ∷ []) i ∙ ap (λ l. value B t l i) carried_more in
             (right.0 ∙ (ap suc same_count ∙ sym left.0), right.1 ∙ (ap (λ n. value B t (k ++ moment B q e' r' ∷ []) (suc n)) same_count ∙ (sym back ∙ (ap f (sym left.1) ∙ sym (s.follows v.value)))))
-        same_answer (Ok v) (Err g) y z x = some_not_none x
-        same_answer (Err i) (Ok u) y z x = some_not_none (sym x)
+        same_answer (Ok v) (Err g) y z x = none-some _ (sym x)
+        same_answer (Err i) (Ok u) y z x = none-some _ x
         same_answer (Err i) (Err g) y z x = cc
 
   alike_none : (ys : List (Exchange L)) (y : Exchange L) → AllAlike B q c [] (ys ++ y ∷ []) → ⊥

@@ -1,5 +1,7 @@
 -- What holds where an event is not refused, and which fault refuses it where nothing else is amiss.
-use Rattle.std.proofs.Common.{◌≡◌, ℕ, ◌*◌, ◌<◌, ◌≤◌, Bool, true, false, cond, ltb, length, Some, None, Option, refl, ap₂, arith}
+use Rattle.std.proofs.Common.{◌≡◌, ℕ, ◌*◌, ◌<◌, ◌≤◌, Bool, true, false, cond, ltb, length, Some, None, Option, refl, ap₂, sym}
+use Rattle.reels.proofs.Tests.{passed}
+use Rattle.std.proofs.lemmas.Option.{none-some}
 use Rattle.std.proofs.lemmas.Bool.{ltb-true, ltb-false, lt-ltb, le-ltb}
 use Rattle.std.specs.Option.{option_map}
 use Rattle.reels.specs.Nesting.{Fault}
@@ -12,22 +14,15 @@ use Rattle.watching.specs.declared.LentList.{LentList}
 use Rattle.watching.specs.declared.LentList.TheVariants.{Plain, Routine, Stack, Opened, Working}
 use Rattle.watching.specs.declared.WatchFault.TheVariants.{ListTooShort, AtEvent}
 
-pub some_not_none : {X : Type 0} {x : X} → Path (Option X) (Some x) None → ⊥
-some_not_none {X} {x} q = let z : ◌≡◌ {A = ℕ} 0 1 = cc in omega arith
-
 -- of two, where the first that there is is none, there is neither
 neither : {X Y : Type 0} (f : X → Y) (x : Option X) (y : Option Y) → first_of (option_map f x) y ≡ None → (x ≡ None) × (y ≡ None)
 neither f None y q = (refl, q)
-neither f (Some x) y q = absurd (some_not_none q)
+neither f (Some x) y q = absurd (none-some _ (sym q))
 
 -- a test that found nothing, and the tests after it
 found_not : {X : Type 0} (b : Bool) (x : X) (y : Option X) → cond b (Some x) y ≡ None → (b ≡ false) × (y ≡ None)
-found_not true x y q = absurd (some_not_none q)
+found_not true x y q = absurd (none-some _ (sym q))
 found_not false x y q = (refl, q)
-
-pub passed : {X : Type 0} (b : Bool) (x : X) → cond b None (Some x) ≡ None → b ≡ true
-passed true x q = refl
-passed false x q = absurd (some_not_none q)
 
 pub record Passes (list : Option LentList) (nesting : Option Fault) (wanted r count : ℕ) : Type 0 where
   pub short : list ≡ None

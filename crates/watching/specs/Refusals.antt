@@ -2,7 +2,7 @@
 --   nest_of n os    the nest of a watcher: its open routines stand in list 4, the innermost last
 --   number_of n     the number that the next event has when it is accepted
 --   first_of x y    the first that there is
---   fault_of i f    the refusal by a fault of the nesting
+--   event_fault f, fault_of i f  a fault of the nesting as one of an event, and the refusal by it
 --   making_refusal  the refusal of a making, or nothing where a watcher is made
 --   refusal         the refusal of an event, or nothing where it is accepted
 use Rattle.std.specs.Prelude.{ℕ, suc, cond, List, map, reverse, take, Some, None, Option, nat_lt}
@@ -15,6 +15,7 @@ use Rattle.watching.specs.Faults.{max_limit, max_events}
 use Rattle.watching.specs.Memory.{Own, short_list}
 use Rattle.watching.specs.declared.Due.{Due}
 use Rattle.watching.specs.declared.Due.TheVariants.{Begin, Return}
+use Rattle.watching.specs.declared.EventFault.{EventFault}
 use Rattle.watching.specs.declared.EventFault.TheVariants.{UnfitRoutine, BeginDue, ReturnDue, Stray, NotInnermost, TooDeep, MissingPredicate, TooManyEvents}
 use Rattle.watching.specs.declared.LentList.{LentList}
 use Rattle.watching.specs.declared.Nesting.{Nesting}
@@ -41,13 +42,16 @@ abbrev pub first_of : {X : Type 0} → Option X → Option X → Option X
 first_of (Some x) y = Some x
 first_of None y = y
 
+abbrev pub event_fault : Fault → EventFault
+event_fault unfit = UnfitRoutine
+event_fault after_call = BeginDue
+event_fault after_end = ReturnDue
+event_fault stray = Stray
+event_fault not_innermost = NotInnermost
+event_fault too_deep = TooDeep
+
 abbrev pub fault_of : ℕ → Fault → WatchFault
-fault_of i unfit = AtEvent i UnfitRoutine
-fault_of i after_call = AtEvent i BeginDue
-fault_of i after_end = AtEvent i ReturnDue
-fault_of i stray = AtEvent i Stray
-fault_of i not_innermost = AtEvent i NotInnermost
-fault_of i too_deep = AtEvent i TooDeep
+fault_of i f = AtEvent i (event_fault f)
 
 -- a limit that is too high comes first, then the first list that is too short
 abbrev pub making_refusal_by : ℕ → Option LentList → Option WatchFault

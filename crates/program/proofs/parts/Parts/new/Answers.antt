@@ -15,6 +15,3 @@ invariant_of-result c =
       all_routine = rw (steps, routine);
       all_predicates = rw steps;
     }
-
-pub returns-clause-nodes : goal.returns-clause-nodes
-returns-clause-nodes c = λ ns. rw (c.new.ensures.value, c.new-2.ensures.value, c.new-3.ensures.value)

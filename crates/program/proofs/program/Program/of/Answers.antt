@@ -1,5 +1,5 @@
-use Rattle.std.proofs.Common.{◌+◌, ap, ◌∙◌, sym, append-nil}
-use Rattle.std.proofs.lemmas.List.{at_drop_more, at_drop_all}
+use Rattle.std.proofs.Common.{ap, ◌∙◌, sym, append-nil}
+use Rattle.std.proofs.lemmas.List.{at_drop_all}
 use Rattle.program.specs.Planned.{planned}
 use Rattle.program.specs.Parts.{comes_to}
 use Rattle.program.proofs.Facts.{runs}
@@ -8,13 +8,6 @@ use Rattle.program.proofs.program.Program.of.Goals as goal
 
 pub add-requires-clause-listed : goal.add-requires-clause-listed
 add-requires-clause-listed c = listed c.args.rule.now c.nodes-node-items.result.now c.loop-node.node-index _ c.nodes-node-items.ensures.value c.loop-node-test.true
-
-pub loop-node-preserved : goal.loop-node-preserved
-loop-node-preserved c =
-    let l = c.loop-node in record {
-      many = c.add.ensures.one ∙ ap (λ k. k + 1) l.invariant.many;
-      comes = c.add.ensures.nodes _ ∙ (sym (at_drop_more (comes_to l.parts) c.nodes-node-items.result.now l.node-index _ c.loop-node-test.true) ∙ l.invariant.comes);
-    }
 
 pub invariant_of-result : goal.invariant_of-result
 unfolding planned
