@@ -17,6 +17,7 @@ use reader::Rule;
 
 impl Program {
     // The program of a rule.
+    #[tactic(auto, using(crate::proofs::Listing::listed), unfolding(crate::specs::Planned::planned))]
     pub fn of(rule: &Rule) -> Program
         ensures rule { result.rule ≡ rule.now }
         ensures runs { (t : Tree) → TreeOf rule.now t → Runs result t }

@@ -66,6 +66,7 @@ fn number_of<T: Copy>(list: &FixedVec<T, MAX_WORDS>) -> u8
 
 impl Parts {
     // Nothing made yet.
+    #[tactic(auto, unfolding(crate::specs::Planned::asked, evaluation::specs::Steps::sources))]
     pub(crate) fn new() -> Parts
         ensures empty { length (elements result.steps) ≡ 0 }
         ensures nodes { (ns : List RuleNode) → comes_to result ns ≡ planned 0 0 ns }

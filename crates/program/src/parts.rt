@@ -14,6 +14,7 @@ use grammar::MAX_WORDS;
 #[derive(Clone, Copy)]
 pub(crate) struct Parts {
     pub(crate) steps: FixedVec<Step, MAX_WORDS>,
+    // Two fields, and not one by the kind of cell: each is lent out whole, under its own name.
     pub(crate) plain: FixedVec<u8, MAX_WORDS>,
     pub(crate) routine: FixedVec<u8, MAX_WORDS>,
     pub(crate) predicates: usize,
