@@ -1,5 +1,5 @@
-// Each part of a pair. What the two maps share is `CarryingMap` itself: one map over either part would need a trait of parts that
-// asks the same of each, and would be longer.
+// Each part of a pair. What the two maps share is `CarryingMap` itself: one map over a trait of parts was tried, is longer, and the
+// toolchain cannot give its method the clauses of the trait yet.
 ghost use Rattle.std.specs.Prelude.{refl};
 
 use crate::map::CarryingMap;

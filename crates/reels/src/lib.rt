@@ -18,7 +18,7 @@ pub enum EventKind {
 #[derive(Clone, Copy, PartialEq, Eq, Debug)]
 pub struct Event {
     pub kind: EventKind,
-    // Which routine; 0 for a step.
+    // Which routine; 0 for a step. Beside the kind and not within it: an event whose number does not fit is refused, so it can be given.
     pub routine: u16,
 }
 

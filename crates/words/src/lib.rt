@@ -209,7 +209,8 @@ pub const WORDS: [Row; 23] = [
     },
 ];
 
-// A word of a rule: its operator, and the number of `pN` and `rN`, which is 0 for every other word.
+// A word of a rule: its operator, and the number of `pN` and `rN`, which is 0 for every other word. No `Option`, since each reader of
+// the number has matched the operator, and would have to match once more.
 #[derive(Clone, Copy, PartialEq, Eq, Debug)]
 pub struct Word {
     pub operator: Operator,
@@ -310,7 +311,8 @@ fn starts_number(digits: &[u8]) -> bool
     }
 }
 
-// The number that the bytes write, if all are digits and it is at most `highest`.
+// The number that the bytes write, if all are digits and it is at most `highest`. A loop, since no lemma of the library says what
+// `try_fold` of them comes to.
 fn value_up_to(highest: u16, digits: &[u8]) -> Option<u16>
     ensures value { result ≡ value_up_to highest digits.now }
 {

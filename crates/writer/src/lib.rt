@@ -21,13 +21,10 @@ use words::{Operands, Word};
 // The longest text of a rule, in bytes: `ralways` over 31 times `implies`, with 32 leaves of six letters or digits.
 pub const MAX_RULE_TEXT: usize = 541;
 
-// The rule's text: that of its one tree; reading it gives this tree again.
+// The rule's text: that of its tree.
 pub fn text_of(rule: &Rule) -> Line<MAX_RULE_TEXT>
-    ensures some_tree { ∥ ((t : Tree) × TreeOf rule.now t) ∥₁ }
-    ensures one_tree { (t u : Tree) → TreeOf rule.now t → TreeOf rule.now u → t ≡ u }
     ensures text { (t : Tree) → TreeOf rule.now t → content result ≡ layout t }
     ensures short { (t : Tree) → TreeOf rule.now t → length (layout t) ≤ max_rule_text }
-    ensures reads_back { (t : Tree) → TreeOf rule.now t → Accepts (layout t) t }
 {
     let nodes = rule.nodes();
     let mut line = Line::new();

@@ -1,6 +1,7 @@
 -- The rule's text and the byte 10 fit the line.
 use Rattle.std.proofs.Common.{◌≡◌, [], ◌∷◌, ◌∙◌, refl, take_all}
 use Rattle.grammar.specs.Layout.{layout}
+use Rattle.reader.proofs.Trees.{some_tree}
 use Rattle.text.specs.Lines.{content}
 use Rattle.text.proofs.Cuts.{added}
 use Rattle.listing.specs.Lines.{rule_line}
@@ -11,7 +12,7 @@ pub returns : goal.returns
 returns c =
     let e = c.text_of-text.ensures in
     record {
-      some_tree = e.some_tree;
+      some_tree = some_tree c.args.rule.now;
       written =
           λ t tr.
           let one = added 542 _ _ [] _ _ c.new.ensures.value c.add.ensures.value (c.bytes.ensures.value ∙ e.text t tr) in

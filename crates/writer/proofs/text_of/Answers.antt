@@ -1,7 +1,6 @@
--- The rule's nodes have a tree, and its layout fits the line.
-use Rattle.std.proofs.Common.{sym, ◌∙◌, arith}
-use Rattle.writer.proofs.Laid.{layout_short, layout_accepted, same_tree}
-use Rattle.reader.proofs.Trees.{some_tree}
+-- The layout of the tree of the rule's nodes fits the line.
+use Rattle.std.proofs.Common.{arith}
+use Rattle.writer.proofs.Laid.{layout_short}
 use Rattle.writer.proofs.Draft.{some_node, in_order, last_tops, whole_text}
 use Rattle.writer.proofs.text_of.Goals as goal
 
@@ -16,12 +15,9 @@ put_rule-requires c =
 pub returns : goal.returns
 returns c =
     record {
-      some_tree = some_tree c.args.rule.now;
-      one_tree = λ t u x y. same_tree x.text y.text t u x.accepted y.accepted (sym x.nodes ∙ y.nodes);
       text = λ t x.
           let room = layout_short x.text t x.accepted in
           let T = last_tops c.args.rule.now _ c.nodes-nodes.ensures.value t x in
           whole_text c.new-line.ensures.value (omega arith) (c.put_rule.ensures.text t T);
       short = λ t x. layout_short x.text t x.accepted;
-      reads_back = λ t x. layout_accepted x.text t x.accepted;
     }
