@@ -17,7 +17,7 @@ use text::{Decimal, Line, WriteFault, write};
 pub const MAX_INPUT: usize = 65536;
 
 // Why an input is not looked at.
-#[derive(Clone, Copy)]
+#[derive(Clone, Copy, PartialEq, Eq, Debug)]
 pub enum InputFault {
     TooLong,
 }
