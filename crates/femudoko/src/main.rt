@@ -5,12 +5,13 @@ use listing::{MAX_INPUT, MAX_LINE, answer};
 use std::io;
 use std::io::{Read, Write};
 
-// One byte more than the longest input tells an input that is too long.
+// One byte more than the longest input tells an input that is too long. No `From` leads from a `usize` to a `u64`.
 const MAX_READ: u64 = MAX_INPUT as u64 + 1;
 
 fn main(rt: HostRuntime) -> io::Result<()> {
     let mut input = Vec::new(rt.alloc());
     rt.stdin().take(MAX_READ).read_to_end(&mut input)?;
+    // The memory that `answer` writes into, long enough for every line: the refusal below is proved never to come.
     let mut line = [0u8; MAX_LINE];
     match answer(&input, &mut line) {
         Ok(end) => rt.stdout().write_all(&line[..end]),

@@ -25,8 +25,8 @@ pub enum Token {
 }
 
 // A node of a rule: its word and, for a two-sided word, the place of its left operand, else 0.
-// The right or only operand is the node just before. `left` is no `Option`, since each reader of it has matched the word
-// as two-sided, and would have to match once more.
+// The right or only operand is the node just before. Operands are named by places and not boxed: a rule lies in fixed memory.
+// `left` is no `Option`, since each reader of it has matched the word as two-sided, and would have to match once more.
 #[derive(Clone, Copy, PartialEq, Eq, Debug)]
 pub struct Node {
     pub word: Word,

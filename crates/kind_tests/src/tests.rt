@@ -111,6 +111,7 @@ fn parts(rt: HostRuntime) {
 
 #[test]
 fn zones_apart(rt: HostRuntime) -> Result<(), Fail> {
+    // Numbers of zones, and one place past them below.
     for n in 0..64 {
         let zone = AtZone::new(n).ok_or_else(|| Fail::new("a zone is missing"))?;
         assert_eq!(rt; zone.carry(Zones(1 << n)), Two::Yes);

@@ -1,5 +1,6 @@
 // A text that is being read: what is left of it, and the rule so far. The functions for a rule and for a unit call each
 // other. Each is told how many more levels a token may lie deep, and leaves the nodes of what it has read in the draft.
+// Each takes the answer to a token apart where it stands, by `let .. else` or `match`, and leaves with the fault of that place.
 ghost use Rattle.std.specs.Prelude.{◌≡◌, ◌+◌, ◌∷◌, MatchResult};
 ghost use Rattle.words.specs.declared.Operands.TheVariants.{Zero, One};
 ghost use Rattle.grammar.specs.Grammar.{takes};
@@ -42,6 +43,7 @@ impl<'a> Parser<'a> {
         };
         self.draft.count(next.place)?;
         self.unit(deep)?;
+        // There are at most 64 nodes: `try_from` would add an error that cannot come.
         self.draft.push(word, operand as u8);
         self.lexer.next()
     }

@@ -7,7 +7,7 @@ use refusal::Refusal;
 use std::io;
 use std::io::{Read, Write};
 
-// Prints the line that answers the input, in the memory lent, or why that is too short.
+// Prints the line that answers the input, in the memory lent, or why that is too short: a refusal to show, not one to hand on.
 fn show_in(rt: &HostRuntime, input: &[u8], line: &mut [u8]) -> io::Result<()> {
     match answer(input, line) {
         Ok(end) => rt.stdout().write_all(&line[..end]),
@@ -19,7 +19,7 @@ fn show(rt: &HostRuntime, input: &[u8]) -> io::Result<()> {
     show_in(rt, input, &mut [0u8; MAX_LINE])
 }
 
-// Prints a refusal's line.
+// Prints a refusal's line, for which the memory is proved to suffice.
 fn show_refusal(rt: &HostRuntime, refusal: Refusal) -> io::Result<()> {
     let mut line = [0u8; MAX_LINE];
     match refusal_line(refusal, &mut line) {

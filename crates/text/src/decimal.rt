@@ -3,7 +3,7 @@ ghost use Rattle.std.specs.Prelude.{◌≡◌, ◌≤◌, drop, decimal};
 
 use itoa::write_digits;
 
-// The digits stand at the end of the array, from the place `from` on.
+// The digits stand at the end of the array, from the place `from` on: on the stack, since nothing here allocates.
 #[derive(Drop)]
 pub struct Decimal {
     pub(crate) number: u64,

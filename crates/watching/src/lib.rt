@@ -70,6 +70,7 @@ impl LentList {
     pub fn number(&self) -> usize
         ensures value { result ≡ list_number self.now }
     {
+        // The discriminant, to which no `From` leads; it is what the refusal of a short list shows as its place.
         *self as usize
     }
 }
@@ -125,7 +126,7 @@ impl From<WatchFault> for Refusal {
                 number: 21,
                 place: list.number(),
             },
-            // There is no `usize::from` of a u32.
+            // There is no `usize::from` of a u32, and none of a discriminant.
             WatchFault::AtEvent { number, fault } => Refusal {
                 number: fault as u16,
                 place: number as usize,

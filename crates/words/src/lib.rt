@@ -67,7 +67,8 @@ const ROUTINES: Numbers = Numbers {
     highest: 65535,
 };
 
-// Every word of the language; a word stands at the place of its operator.
+// Every word of the language; a word stands at the place of its operator. One constant table for the lexer, the reader and the writer,
+// so texts are looked for from its front, and no map is built.
 pub const WORDS: [Row; 23] = [
     Row {
         text: b"and",
@@ -244,6 +245,7 @@ fn row_of(operator: Operator) -> &'static Row
     ensures operands { result.now.operands ≡ operands operator }
 {
     let rows: &'static [Row] = &WORDS;
+    // A word stands at the place of its operator, and no `From` leads to a discriminant.
     &rows[operator as usize]
 }
 
@@ -327,6 +329,7 @@ fn value_up_to(highest: u16, digits: &[u8]) -> Option<u16>
 fn with_digit(highest: u16, number: u16, digit: u8) -> Option<u16>
     ensures value { result ≡ with_digit highest number digit }
 {
+    // A test of a byte, and no failure that `?` could hand on.
     let b'0'..=b'9' = digit else {
         return None;
     };
