@@ -27,6 +27,13 @@ impl<T: Copy, const N: usize> FixedVec<T, N> {
         &places[..self.len]
     }
 
+    // How many elements there are.
+    pub fn len(&self) -> usize
+        ensures value { result ≡ length (elements self.now) }
+    {
+        self.as_slice().len()
+    }
+
     // Puts `x` behind the others; a full vector hands it back.
     pub fn push(&mut self, x: T) -> Result<(), T>
         ensures pushed { MatchResult result (λ _. elements self.new ≡ elements self.old ++ x ∷ []) (λ y. (y ≡ x) × (length (elements self.old) ≡ N) × (elements self.new ≡ elements self.old)) }

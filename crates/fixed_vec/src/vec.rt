@@ -1,4 +1,5 @@
-// A vector of at most `N` elements.
+// A vector of at most `N` elements. The kit's is not `Copy`, and rules and programs are. No model stands in for the fields: one that
+// forgets the free places could not be `Copy`.
 ghost use Rattle.std.specs.Prelude.{◌≡◌, ◌≤◌, ⊤};
 
 use std::alloc::AllocError;
@@ -11,7 +12,7 @@ pub struct FixedVec<T, const N: usize> {
     ghost within: { len ≤ N },
 }
 
-// Written by hand, since no derive knows that a copy keeps the ghost field.
+// Written by hand: a derive of `Clone` is refused for a struct with a parameter and a ghost field.
 impl<T: Copy, const N: usize> Clone for FixedVec<T, N> {
     ghost is_clone = { λ v w. w ≡ v };
 
