@@ -33,7 +33,8 @@ pub struct Node {
     pub left: u8,
 }
 
-// Why a text is no rule, and where.
+// Why a text is no rule, and where. The place is held case by case: a byte, the start of a word or of a token, or the length of the
+// text, as the case says.
 #[derive(Clone, Copy, PartialEq, Eq, Debug)]
 pub enum TextFault {
     TooLong,

@@ -111,7 +111,7 @@ fn parts(rt: HostRuntime) {
 
 #[test]
 fn zones_apart(rt: HostRuntime) -> Result<(), Fail> {
-    // Numbers of zones, and one place past them below.
+    // Numbers of zones, and no places in a list; 64 is one past the last.
     for n in 0..64 {
         let zone = AtZone::new(n).ok_or_else(|| Fail::new("a zone is missing"))?;
         assert_eq!(rt; zone.carry(Zones(1 << n)), Two::Yes);

@@ -1,4 +1,5 @@
-// The two scans of the lexer: over spaces, and over a run of letters and digits.
+// The two scans of the lexer: over spaces, and over a run of letters and digits. Each is one line; one scan over a closure would
+// have to say what it asks of the closure, and what that answers.
 ghost use Rattle.std.specs.Prelude.{◌≡◌, ◌+◌, ◌≤◌, length, drop, ◌==◌};
 ghost use Rattle.std.specs.List.{prefix_len};
 ghost use Rattle.grammar.specs.Lexemes.{is_letter};

@@ -61,7 +61,7 @@ fn number_of<T: Copy>(list: &FixedVec<T, MAX_WORDS>) -> u8
     ensures value { result ≡ length (elements list.now) }
 {
     // There are at most 64, so this loses nothing, and `try_from` would add an error that cannot come.
-    list.as_slice().len() as u8
+    list.len() as u8
 }
 
 impl Parts {
@@ -107,7 +107,7 @@ impl Parts {
             Operator::Begin => Step::Kind(EventKind::Begin),
             Operator::End => Step::Kind(EventKind::End),
             Operator::Return => Step::Kind(EventKind::Return),
-            // A listed predicate's number has 8 bits.
+            // A listed predicate's number fits 8 bits: `try_from` would add an error that cannot come.
             Operator::Predicate => Step::Predicate(node.word.number as u8),
             Operator::Routine => Step::Routine(node.word.number),
         }

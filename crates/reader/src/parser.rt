@@ -31,7 +31,7 @@ impl<'a> Parser<'a> {
         ensures read { ReadRule deep (left self.old.lexer) self.old result self.new }
     {
         self.unit(deep)?;
-        let operand = self.draft.nodes.as_slice().len() - 1;
+        let operand = self.draft.nodes.len() - 1;
         let Some(next) = self.lexer.next()? else {
             return Ok(None);
         };

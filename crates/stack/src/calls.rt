@@ -23,10 +23,7 @@ impl<'a, T: Copy> Stack<'a, T> {
         ensures popped { Popped self.old result self.new }
         ensures lent { self.new.items.ghost_name ≡ self.old.items.ghost_name }
     {
-        if self.len == 0 {
-            return None;
-        }
-        self.len -= 1;
+        self.len = self.len.checked_sub(1)?;
         Some(self.items[self.len])
     }
 

@@ -258,7 +258,7 @@ pub fn find(run: &[u8]) -> Option<Word>
     find_in(&WORDS, run)
 }
 
-// The word of the first row that the bytes fit. A loop, since `find_map` leaves a longer proof than the invariant's.
+// The word of the first row that the bytes fit. A loop, since no lemma of the library says what `find_map` of them comes to.
 fn find_in(rows: &[Row], run: &[u8]) -> Option<Word>
     ensures value { result ≡ seek (map line_of rows.now) run.now }
 {
@@ -287,8 +287,7 @@ fn number_of(numbers: Option<Numbers>, rest: &[u8]) -> Option<u16>
 {
     match numbers {
         Some(numbers) => number_in(numbers, rest),
-        None if rest.is_empty() => Some(0),
-        None => None,
+        None => rest.is_empty().then_some(0),
     }
 }
 
@@ -329,12 +328,9 @@ fn value_up_to(highest: u16, digits: &[u8]) -> Option<u16>
 fn with_digit(highest: u16, number: u16, digit: u8) -> Option<u16>
     ensures value { result ≡ with_digit highest number digit }
 {
-    // A test of a byte, and no failure that `?` could hand on.
-    let b'0'..=b'9' = digit else {
-        return None;
-    };
+    let units = digit.checked_sub(b'0').filter(|units| *units < 10)?;
     number
         .checked_mul(10)?
-        .checked_add(u16::from(digit - b'0'))
+        .checked_add(u16::from(units))
         .filter(|longer| *longer <= highest)
 }

@@ -130,7 +130,7 @@ rule-returns-in_err-unit t c =
 pub rule-overflow_sub-operand : goal.rule-overflow_sub-operand
 rule-overflow_sub-operand t c =
     let rd = c.in_ok-unit.ensures.read in
-    omega (arith, size_some rd.0, rd.2.len, ap length c.as_slice.ensures.value)
+    omega (arith, size_some rd.0, rd.2.len, c.len-operand.ensures.value)
 
 pub rule-returns-in_err-next : goal.rule-returns-in_err-next
 rule-returns-in_err-next t c =
@@ -197,7 +197,7 @@ rule-returns t c =
     let second_unit = want_second _ c.args.deep _ _ c.count.new.self.words _ _ _ _ rd.0 c.in-Word.word first_unit two_sided (ap length (c.next.ensures.same_text ∙ rd.3)) more.counted c.count.new.self.few in
     let re = c.in_ok-unit-2.ensures.read in
     let counted : Counted c.unit.new.self.draft c.count.new.self = record { same = more.same; words = more.counted } in
-    let pushed : Pushed c.unit-2.new.self.draft c.push.new.self c.in-Word.word (length c.as_slice.result.now - 1) = record { pushed = c.push.ensures.pushed; words = c.push.ensures.words } in
+    let pushed : Pushed c.unit-2.new.self.draft c.push.new.self c.in-Word.word (c.len-operand.result - 1) = record { pushed = c.push.ensures.pushed; words = c.push.ensures.words } in
     let tree : Tree = two c.in-Word.word rd.0 re.0 in
     record {
       read =
@@ -206,7 +206,7 @@ rule-returns t c =
           second_unit K h ∙ re.1 (second c.in-Word.word rd.0 K) (omega (arith, second_depth c.in-Word.word rd.0 K))
           ∙ ap₂ (λ n k. runs n (unit_done (second c.in-Word.word rd.0 K) re.0) k (left c.unit-2.new.self.lexer)) (ap length (c.next.ensures.same_text ∙ rd.3)) (sym c.push.ensures.words)
           ∙ ap (λ S. runs (length (text_of c.args.self.now.lexer)) S c.push.new.self.words (left c.unit-2.new.self.lexer)) (second_done c.in-Word.word rd.0 K re.0))
-          (grown_two rd.2 counted re.2 pushed (ap (λ ns. length ns - 1) c.as_slice.ensures.value))
+          (grown_two rd.2 counted re.2 pushed (ap (λ n. n - 1) c.len-operand.ensures.value))
           (c.next-2.ensures.same_text ∙ re.3 ∙ c.next.ensures.same_text ∙ rd.3)
           c.next-2.ensures.answer;
     }
