@@ -1,6 +1,5 @@
 // What a kind with a text is.
 ghost use Rattle.std.specs.Prelude.{◌≡◌, ℕ, ◌≤◌, List, length};
-ghost use Rattle.text.specs.Lines.{content};
 ghost use Rattle.text.specs.Writing.{Written};
 
 use kinds::TruthKind;
@@ -15,7 +14,7 @@ pub trait TextKind: TruthKind {
 
     // The value's text.
     fn line(self) -> Line<TEXT_LIMIT>
-        ensures value { content result ≡ text self };
+        ensures value { result ≡ text self };
 
     // Writes the value's text into the memory lent, or refuses and writes nothing.
     final fn write_text(self, out: &mut [u8]) -> Result<usize, WriteFault>

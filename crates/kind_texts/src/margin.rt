@@ -3,7 +3,6 @@ ghost use Rattle.std.specs.Prelude.{◌≡◌};
 ghost use Rattle.std.proofs.Common.{ap};
 ghost use Rattle.kind_texts.specs.Margin.{margin_text, sign, tenths, tenths_text};
 ghost use Rattle.kinds.specs.Margin.{held, margin_means};
-ghost use Rattle.text.specs.Lines.{content};
 ghost use Rattle.kind_texts.specs.Pieces.{length_margin};
 
 use crate::kind::{TEXT_LIMIT, TextKind};
@@ -26,7 +25,7 @@ fn sign(number: i16) -> &'static [u8]
 
 // A number of tenths, with a point before the last digit.
 fn spelled(tenths: i16) -> Line<TEXT_LIMIT>
-    ensures value { content result ≡ tenths_text tenths }
+    ensures value { result ≡ tenths_text tenths }
 {
     let size = u64::from(tenths.unsigned_abs());
     let whole = Decimal::new(size / 10);

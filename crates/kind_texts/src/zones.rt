@@ -3,7 +3,6 @@ ghost use Rattle.std.specs.Prelude.{◌≡◌};
 ghost use Rattle.std.proofs.Common.{ap};
 ghost use Rattle.kind_texts.specs.Zones.{zone_text, counted_text};
 ghost use Rattle.kinds.specs.Zones.{zones_means};
-ghost use Rattle.text.specs.Lines.{content};
 ghost use Rattle.kind_texts.specs.Pieces.{length_zone};
 
 use crate::kind::{TEXT_LIMIT, TextKind};
@@ -12,7 +11,7 @@ use text::{Decimal, Line};
 
 // The text for a count of zones that hold and the lowest zone that does not, 64 for none.
 fn spelled(count: u32, lowest: u32) -> Line<TEXT_LIMIT>
-    ensures value { content result ≡ counted_text count lowest }
+    ensures value { result ≡ counted_text count lowest }
 {
     let count = Decimal::new(u64::from(count));
     let digits = Decimal::new(u64::from(lowest));

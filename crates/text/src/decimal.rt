@@ -1,16 +1,16 @@
 // The decimal text of a number.
-ghost use Rattle.std.specs.Prelude.{◌≡◌, ◌≤◌, drop, decimal};
+ghost use Rattle.std.specs.Prelude.{◌≡◌, decimal};
+ghost use Rattle.fixed_vec.specs.Elements.{elements};
 
-use itoa::write_digits;
+use fixed_vec::FixedVec;
+use itoa::Buffer;
 
-// The digits stand at the end of the array, from the place `from` on: on the stack, since nothing here allocates.
+// The digits lie on the stack, since nothing here allocates: a number of 64 bits has at most 20.
 #[derive(Drop)]
 pub struct Decimal {
     pub(crate) number: u64,
-    pub(crate) digits: [u8; 20],
-    pub(crate) from: usize,
-    ghost within: { from ≤ 20 },
-    ghost spelled: { drop from digits ≡ decimal number },
+    pub(crate) digits: FixedVec<u8, 20>,
+    ghost spelled: { elements digits ≡ decimal number },
 }
 
 impl Decimal {
@@ -18,19 +18,15 @@ impl Decimal {
     pub fn new(number: u64) -> Decimal
         ensures value { result.number ≡ number }
     {
-        let mut digits = [0; 20];
-        let from = write_digits(number, &mut digits, 20);
-        Decimal {
-            number,
-            digits,
-            from,
-        }
+        let mut digits = FixedVec::new(0);
+        digits.append(Buffer::new().format(number).as_bytes());
+        Decimal { number, digits }
     }
 
     // The digits, without leading zeros.
     pub fn bytes(&self) -> &[u8]
         ensures value { result.now ≡ decimal self.now.number }
     {
-        &self.digits[self.from..]
+        self.digits.as_slice()
     }
 }
