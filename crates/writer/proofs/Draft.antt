@@ -8,13 +8,10 @@ use Rattle.grammar.specs.declared.Node.{Node}
 use Rattle.reader.specs.Rules.{nodes_in}
 use Rattle.reader.specs.declared.rule.Rule.{Rule}
 use Rattle.reader.proofs.Trees.{some_tree}
-use Rattle.text.specs.Lines.{content}
-use Rattle.text.specs.declared.line.Line.{Line}
 use Rattle.reader.specs.Rules.{TreeOf}
-use Rattle.writer.specs.Puts.{Puts}
-use Rattle.writer.specs.Tops.{Ordered, Tops}
+use Rattle.writer.specs.Tops.{Ordered, Tops, ordered_prop}
 use Rattle.writer.proofs.Laid.{counted}
-use Rattle.writer.proofs.Tops.{length_nodes, size_some, nodes_ordered, ordered_prop, tops_nodes}
+use Rattle.writer.proofs.Tops.{length_nodes, size_some, nodes_ordered, tops_nodes}
 
 -- the nodes of the rule
 module _ (r : Rule) (ns : List Node) (e : ns ≡ nodes_in r) where
@@ -33,5 +30,5 @@ module _ (r : Rule) (ns : List Node) (e : ns ≡ nodes_in r) where
       subst P (sym (e ∙ x.nodes)) (tops_nodes t (counted x.text t x.accepted))
 
 -- a text behind none, in a line that has room for it
-pub whole_text : {N : ℕ} {old new : Line N} {text : List ℕ} → content old ≡ [] → length text ≤ N → Puts old new text → content new ≡ text
-whole_text {N} {old} {new} {text} none h p = p.is ∙ ap (λ x. take N (x ++ text)) none ∙ take_all N text h
+pub whole_text : {n : ℕ} {old new text : List ℕ} → old ≡ [] → length text ≤ n → new ≡ take n (old ++ text) → new ≡ text
+whole_text {n} {old} {new} {text} none h p = p ∙ ap (λ x. take n (x ++ text)) none ∙ take_all n text h

@@ -1,7 +1,5 @@
 -- How the nodes of a tree stand in a list: operands before their node, and where the tops of the operands are.
 use Rattle.std.proofs.Common.{◌≡◌, ℕ, zero, suc, ◌+◌, ◌-◌, ◌<◌, List, [], ◌∷◌, ◌++◌, length, get_or, sym, refl, ap, ◌∙◌, subst, append_assoc, append-nil, add-zero, zero-add, arith, length-append}
-use native.Mathlib.Bridge.{le_prop}
-use mathlib.Core.HLevel.{Unit-prop, ×_prop}
 use Rattle.std.proofs.lemmas.List.{get_or_at}
 use Rattle.words.specs.declared.Operands.{Operands}
 use Rattle.words.specs.declared.Operands.TheVariants.{Zero, One, Two}
@@ -11,19 +9,10 @@ use Rattle.words.specs.Words.{spell}
 use Rattle.grammar.specs.Layout.{layout, as_operand}
 use Rattle.grammar.specs.Nodes.{size, node, nodes}
 use Rattle.grammar.specs.declared.Node.{Node}
-use Rattle.text.specs.declared.line.Line.{Line}
+use Rattle.writer.specs.declared.rule_text.RuleText.{RuleText}
 use Rattle.writer.specs.Puts.{Puts}
 use Rattle.writer.specs.Tops.{Before, Ordered, Has, Tops}
 use Rattle.writer.proofs.Nodes.{Counted, many, below, top_node, nodes_push}
-
-before_prop : (o : Operands) (k left : ℕ) → IsProp (Before o k left)
-before_prop Zero k left = Unit-prop
-before_prop One k left = le_prop
-before_prop Two k left = ×_prop le_prop le_prop
-
-pub ordered_prop : (ns : List Node) (k : ℕ) → IsProp (Ordered k ns)
-ordered_prop [] k = Unit-prop
-ordered_prop (n ∷ ns) k = ×_prop (before_prop (takes n.word) k n.left) (ordered_prop ns (suc k))
 
 pub ordered_at : (ns : List Node) (k i : ℕ) (d : Node) → i < length ns → Ordered k ns → Before (takes (get_or ns i d).word) (k + i) (get_or ns i d).left
 ordered_at [] k i d h O = absurd (omega arith)
@@ -103,7 +92,7 @@ unfolding nodes
 holds_right ns k w l r h =
     record { front = h.front ++ nodes k l; back = node w (k + size l - 1) ∷ h.back; whole = h.whole ∙ simp append_assoc; from = omega (arith, length-append h.front (nodes k l), h.from, length_nodes l k) }
 
-pub tops_move : (ns : List Node) (t : Tree) (m n : ℕ) → m ≡ n → Tops ns m t → Tops ns n t
+tops_move : (ns : List Node) (t : Tree) (m n : ℕ) → m ≡ n → Tops ns m t → Tops ns n t
 tops_move ns t m n e T = let P : ℕ → Type 0 = λ x. Tops ns x t in subst P e T
 
 has : (t : Tree) (ns : List Node) (k : ℕ) (o : Operands) → Holds ns k t → takes (top_node k t).word ≡ o → Has ns (k + size t - 1) (top_node k t).word o
@@ -129,25 +118,25 @@ module _ (ns : List Node) (n : ℕ) (d : Node) where
   same_units : {w : Word} {o : Operands} (x : Operands) → x ≡ takes (get_or ns n d).word → Has ns n w o → many x ≡ many o
   same_units x e h = ap many (e ∙ ap takes (h.word d) ∙ h.units)
 
-  pub top_zero : {N : ℕ} {old new : Line N} (t : Tree) → Zero ≡ takes (get_or ns n d).word → Tops ns n t → Puts old new (spell (get_or ns n d).word) → Puts old new (layout t)
+  pub top_zero : {old new : RuleText} (t : Tree) → Zero ≡ takes (get_or ns n d).word → Tops ns n t → Puts old new (spell (get_or ns n d).word) → Puts old new (layout t)
   unfolding layout
   top_zero (leaf w) e T p = rw (T.word d) at p
   top_zero (one w t) e T p = absurd (omega (arith, same_units Zero e T.0))
   top_zero (two w l r) e T p = absurd (omega (arith, same_units Zero e T.0))
 
-  pub top_one : {N : ℕ} {old new : Line N} (t : Tree) → One ≡ takes (get_or ns n d).word → Tops ns n t → ((u : Tree) → Tops ns (n - 1) u → Puts old new (spell (get_or ns n d).word ++ 32 ∷ as_operand u (layout u))) → Puts old new (layout t)
+  pub top_one : {old new : RuleText} (t : Tree) → One ≡ takes (get_or ns n d).word → Tops ns n t → ((u : Tree) → Tops ns (n - 1) u → Puts old new (spell (get_or ns n d).word ++ 32 ∷ as_operand u (layout u))) → Puts old new (layout t)
   unfolding layout
   top_one (leaf w) e T f = absurd (omega (arith, same_units One e T))
   top_one (one w t) e T f = rw (T.0.word d) at (f t T.1)
   top_one (two w l r) e T f = absurd (omega (arith, same_units One e T.0))
 
-  pub top_two : {N : ℕ} {old new : Line N} (t : Tree) → Two ≡ takes (get_or ns n d).word → Tops ns n t → ((l r : Tree) → Tops ns (get_or ns n d).left l → Tops ns (n - 1) r → Puts old new (as_operand l (layout l) ++ 32 ∷ (spell (get_or ns n d).word ++ 32 ∷ as_operand r (layout r)))) → Puts old new (layout t)
+  pub top_two : {old new : RuleText} (t : Tree) → Two ≡ takes (get_or ns n d).word → Tops ns n t → ((l r : Tree) → Tops ns (get_or ns n d).left l → Tops ns (n - 1) r → Puts old new (as_operand l (layout l) ++ 32 ∷ (spell (get_or ns n d).word ++ 32 ∷ as_operand r (layout r)))) → Puts old new (layout t)
   unfolding layout
   top_two (leaf w) e T f = absurd (omega (arith, same_units Two e T))
   top_two (one w t) e T f = absurd (omega (arith, same_units Two e T.0))
   top_two (two w l r) e T f = rw (T.0.word d) at (f l r (T.1 d) T.2)
 
-  pub in_parens : {N : ℕ} {old new : Line N} (t : Tree) → Two ≡ takes (get_or ns n d).word → Tops ns n t → Puts old new (40 ∷ (layout t ++ 41 ∷ [])) → Puts old new (as_operand t (layout t))
+  pub in_parens : {old new : RuleText} (t : Tree) → Two ≡ takes (get_or ns n d).word → Tops ns n t → Puts old new (40 ∷ (layout t ++ 41 ∷ [])) → Puts old new (as_operand t (layout t))
   in_parens (leaf w) e T p = absurd (omega (arith, same_units Two e T))
   in_parens (one w t) e T p = absurd (omega (arith, same_units Two e T.0))
   in_parens (two w l r) e T p = p

@@ -2,6 +2,8 @@
 --   Ordered k ns     every operand's number is below its node's; the first node has the number k
 --   Tops ns n t      the node with the number n is the top of the tree t
 use Rattle.std.specs.Prelude.{◌≡◌, ℕ, suc, ◌-◌, ◌<◌, List, [], ◌∷◌, slice_index_or}
+use native.Mathlib.Bridge.{le_prop}
+use mathlib.Core.HLevel.{Unit-prop, ×_prop}
 use Rattle.words.specs.declared.Operands.{Operands}
 use Rattle.words.specs.declared.Operands.TheVariants.{Zero, One, Two}
 use Rattle.words.specs.declared.Word.{Word}
@@ -17,6 +19,16 @@ Before Two k left = (0 < k) × (left < k)
 abbrev pub Ordered : ℕ → List Node → Type 0
 Ordered k [] = Unit {0}
 Ordered k (n ∷ ns) = Before (takes n.word) k n.left × Ordered (suc k) ns
+
+-- at most one proof says that a list is ordered, as a fact that a struct keeps has to show
+before_prop : (o : Operands) (k left : ℕ) → IsProp (Before o k left)
+before_prop Zero k left = Unit-prop
+before_prop One k left = le_prop
+before_prop Two k left = ×_prop le_prop le_prop
+
+pub ordered_prop : (ns : List Node) (k : ℕ) → IsProp (Ordered k ns)
+ordered_prop [] k = Unit-prop
+ordered_prop (n ∷ ns) k = ×_prop (before_prop (takes n.word) k n.left) (ordered_prop ns (suc k))
 
 -- the node with the number n has this word, which takes so many units
 pub record Has (ns : List Node) (n : ℕ) (w : Word) (o : Operands) : Type 0 where

@@ -4,20 +4,23 @@ use Rattle.writer.proofs.Laid.{layout_short}
 use Rattle.writer.proofs.Draft.{some_node, in_order, last_tops, whole_text}
 use Rattle.writer.proofs.text_of.Goals as goal
 
+pub invariant_of-text : goal.invariant_of-text
+invariant_of-text c = record { ordered = in_order c.args.rule.now _ c.nodes-nodes.ensures.value }
+
 pub overflow_sub-nodes : goal.overflow_sub-nodes
 overflow_sub-nodes c = some_node c.args.rule.now _ c.nodes-nodes.ensures.value
 
-pub put_rule-requires : goal.put_rule-requires
-put_rule-requires c =
+pub rule-requires : goal.rule-requires
+rule-requires c =
     let some = some_node c.args.rule.now _ c.nodes-nodes.ensures.value in
-    record { ordered = in_order c.args.rule.now _ c.nodes-nodes.ensures.value; within = omega arith }
+    record { within = omega arith }
 
-pub returns : goal.returns
-returns c =
-    record {
-      text = λ t x.
-          let room = layout_short x.text t x.accepted in
-          let T = last_tops c.args.rule.now _ c.nodes-nodes.ensures.value t x in
-          whole_text c.new-line.ensures.value (omega arith) (c.put_rule.ensures.text t T);
-      short = λ t x. layout_short x.text t x.accepted;
-    }
+pub returns-clause-text : goal.returns-clause-text
+returns-clause-text c =
+    λ t x.
+    let room = layout_short x.text t x.accepted in
+    let T = last_tops c.args.rule.now _ c.nodes-nodes.ensures.value t x in
+    whole_text c.new.ensures.value room (c.rule.ensures.text.line t T)
+
+pub returns-clause-short : goal.returns-clause-short
+returns-clause-short c = λ t x. layout_short x.text t x.accepted
