@@ -76,10 +76,7 @@ fn line_end(input: &[u8]) -> Option<usize>
 pub fn first_line(input: &[u8]) -> &[u8]
     ensures value { result.now ≡ first_line input.now }
 {
-    match line_end(input) {
-        Some(end) => &input[..end],
-        None => input,
-    }
+    &input[..line_end(input).unwrap_or(input.len())]
 }
 
 // The rule in the input, or why there is none.

@@ -1,6 +1,5 @@
 -- The line's pieces, one behind another.
 use Rattle.std.proofs.Common.{◌≡◌, [], ◌∷◌, ◌++◌, take, decimal, refl, ap, ◌∙◌, append_assoc, arith, rules, take_all}
-use Rattle.text.specs.Lines.{content}
 use Rattle.text.proofs.Cuts.{added}
 use Rattle.listing.specs.Lines.{refusal_line}
 use Rattle.listing.proofs.Joining.{refusal_length}
@@ -19,5 +18,5 @@ returns c =
     let five = added 542 _ _ (((33 ∷ decimal n) ++ 32 ∷ []) ++ decimal p) (10 ∷ []) _ four c.add-line.ensures.value refl in
     let line : (((33 ∷ decimal n) ++ 32 ∷ []) ++ decimal p) ++ 10 ∷ [] ≡ refusal_line n p = simp append_assoc in
     let short = refusal_length n p (omega arith) (omega arith) in
-    let whole : content c.add-line.result ≡ refusal_line n p = five ∙ ap (take 542) line ∙ take_all 542 (refusal_line n p) (omega arith) in
+    let whole : c.add-line.result ≡ refusal_line n p = five ∙ ap (take 542) line ∙ take_all 542 (refusal_line n p) (omega arith) in
     record { written = rw (c.bytes-3.ensures.value ∙ whole) at c.write.ensures.written; short = omega arith }
