@@ -22,10 +22,8 @@ fn show(rt: &HostRuntime, input: &[u8]) -> io::Result<()> {
 // Prints a refusal's line, for which the memory is proved to suffice.
 fn show_refusal(rt: &HostRuntime, refusal: Refusal) -> io::Result<()> {
     let mut line = [0u8; MAX_LINE];
-    match refusal_line(refusal, &mut line) {
-        Ok(end) => rt.stdout().write_all(&line[..end]),
-        Err(_) => unreachable(),
-    }
+    let end = refusal_line(refusal, &mut line).unwrap();
+    rt.stdout().write_all(&line[..end])
 }
 
 // Answers each line of the input, without its byte 10.
