@@ -1,5 +1,5 @@
 // A short text under construction.
-ghost use Rattle.std.specs.Prelude.{◌≡◌, [], ◌++◌, take};
+ghost use Rattle.std.specs.Prelude.{◌≡◌, ◌≤◌, [], ◌++◌, length, take};
 
 use fixed_vec::FixedVec;
 use std::marker::Model;
@@ -34,6 +34,7 @@ impl<const N: usize> Line<N> {
     // The text so far.
     pub fn bytes(&self) -> &[u8]
         ensures value { result.now ≡ self.now }
+        ensures within { length self.now ≤ N }
     {
         self.bytes.as_slice()
     }
