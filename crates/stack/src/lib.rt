@@ -16,7 +16,7 @@ pub struct Stack<'a, T> {
     ghost within: { len ≤ length items.now },
 }
 
-// The free places are too few for what was to be pushed.
+// The free places are too few for what was to be pushed. An error of its own, as `Short` is: two calls, and nothing to hold.
 #[derive(Clone, Copy, PartialEq, Eq, Debug)]
 pub struct Full;
 
