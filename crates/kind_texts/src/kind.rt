@@ -8,6 +8,7 @@ use text::{Line, WriteFault, write};
 // The most bytes that a text of any kind has.
 pub const TEXT_LIMIT: usize = 32;
 
+// No `Display`, for the reason that stands at `Line`.
 pub trait TextKind: TruthKind {
     // The text of a value.
     ghost text: { Self → List ℕ };

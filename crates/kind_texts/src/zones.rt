@@ -9,7 +9,7 @@ use crate::kind::{TEXT_LIMIT, TextKind};
 use kinds::Zones;
 use text::{Decimal, Line};
 
-// The text for a count of zones that hold and the lowest zone that does not, 64 for none.
+// The text for a count of zones that hold and the lowest zone that does not: 64 for none, as `trailing_zeros` answers.
 fn spelled(count: u32, lowest: u32) -> Line<TEXT_LIMIT>
     ensures value { result ≡ counted_text count lowest }
 {

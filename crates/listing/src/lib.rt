@@ -98,6 +98,7 @@ pub fn answer(input: &[u8], out: &mut [u8]) -> Result<usize, WriteFault>
     ensures short { (line : List ℕ) → Answer input.now line → length line ≤ max_line }
     ensures written { (line : List ℕ) → Answer input.now line → Written out.old out.new line result }
 {
+    // A refusal is shown as a line, and not handed on.
     match rule_of(input) {
         Ok(rule) => rule_line(&rule, out),
         Err(refusal) => refusal_line(refusal, out),

@@ -43,7 +43,7 @@ impl Program {
         self.parts.steps.as_slice()
     }
 
-    // For each plain cell, in order, the number of the step whose value it keeps.
+    // For each plain cell, in order, the number of the step whose value it keeps. A call for each kind of cell, as `Parts` says.
     pub fn plain(&self) -> &[u8]
         ensures value { result.now ≡ plain_numbers self.now }
     {

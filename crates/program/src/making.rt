@@ -102,6 +102,7 @@ impl Parts {
             Operator::Fall => Step::Fall(plain),
             Operator::True => Step::True,
             Operator::False => Step::False,
+            // A `From` of these five would only move them: nothing else turns a word into a kind.
             Operator::Step => Step::Kind(EventKind::Step),
             Operator::Call => Step::Kind(EventKind::Call),
             Operator::Begin => Step::Kind(EventKind::Begin),

@@ -1,6 +1,7 @@
 // A text that is being read: what is left of it, and the rule so far. The functions for a rule and for a unit call each
 // other. Each is told how many more levels a token may lie deep, and leaves the nodes of what it has read in the draft.
 // Each takes the answer to a token apart where it stands, by `let .. else` or `match`, and leaves with the fault of that place.
+// A level and a place are passed on to be used once, in a function's first line.
 ghost use Rattle.std.specs.Prelude.{◌≡◌, ◌+◌, ◌∷◌, MatchResult};
 ghost use Rattle.words.specs.declared.Operands.TheVariants.{Zero, One};
 ghost use Rattle.grammar.specs.Grammar.{takes};

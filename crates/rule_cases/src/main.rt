@@ -15,6 +15,7 @@ fn show_in(rt: &HostRuntime, input: &[u8], line: &mut [u8]) -> io::Result<()> {
     }
 }
 
+// Texts go into lent memory, here as in every program.
 fn show(rt: &HostRuntime, input: &[u8]) -> io::Result<()> {
     show_in(rt, input, &mut [0u8; MAX_LINE])
 }

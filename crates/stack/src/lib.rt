@@ -6,7 +6,7 @@ mod calls;
 ghost use Rattle.std.specs.Prelude.{◌≡◌, ◌≤◌, min, length};
 
 // The elements stand in the slice's first `len` places, the top last; the places above are free. The memory is lent, since
-// nothing here allocates, so what stands in it and how much of it counts are two fields.
+// nothing here allocates, so what stands in it and how much of it counts are two fields; a `FixedVec` holds its places itself.
 // Each call says for itself that the lent slice stays the same loan, and callers need that to know what the slice holds afterwards:
 // it relates two states, where a ghost field or a model sees one.
 #[derive(Drop)]

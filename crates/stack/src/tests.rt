@@ -4,7 +4,7 @@ ghost use Rattle.stack.specs.Calls.{places};
 
 use super::*;
 
-// An open routine: its number, and the number of the event that called it.
+// An example of a record: an open routine's number, and that of the event that called it. This crate knows of no watcher.
 #[derive(Clone, Copy, PartialEq, Eq, Debug)]
 struct Open {
     routine: u16,

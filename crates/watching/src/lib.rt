@@ -39,7 +39,7 @@ pub struct OpenRoutine {
     pub call: u32,
 }
 
-// The memory that is lent to a watcher's calls. The first four lists are the watcher's own from its making on; the last
+// The memory that is lent to a watcher's calls: slices whose lengths a watcher knows, since nothing here allocates. The first four lists are the watcher's own from its making on; the last
 // one is free between calls.
 #[derive(Drop)]
 pub struct Lists<'a, K> {

@@ -32,7 +32,8 @@ pub fn text_of(rule: &Rule) -> Line<MAX_RULE_TEXT>
     text.line
 }
 
-// Writes the rule's text at the front of the memory and answers its length, or refuses and writes nothing.
+// Writes the rule's text at the front of the memory and answers its length, or refuses and writes nothing: no `Display`, for the reason
+// that stands at `Line`. A rule's tree is named in clauses alone, since a type of the code cannot hold it.
 // The text is that of the rule's one tree; reading it gives this tree again.
 pub fn write(rule: &Rule, out: &mut [u8]) -> Result<usize, WriteFault>
     ensures some_tree { ∥ ((t : Tree) × TreeOf rule.now t) ∥₁ }
