@@ -9,6 +9,36 @@ use Rattle.monitor.proofs.Giving.{sound_in, plain_in, routine_in, routine_after_
 use Rattle.monitor.proofs.Rooms.{room}
 use Rattle.monitor.proofs.watcher.Watcher.give.Goals as goal
 
+pub returns : goal.returns
+returns g c =
+    let self = c.args.self.now in
+    let p = self.program in
+    let n = self.nesting in
+    let lent = own c.args.plain.now c.args.routine.now c.args.stack.now c.args.opened.now in
+    let e = c.args.event in
+    let f = g.K.TruthKind.means in
+    let fault = c.in_ok-number.ensures.fault in
+    let long = lists p n lent _ e _ fault in
+    let ss = c.steps-steps.ensures.value in
+    let w = c.evaluate.new.working in
+    record {
+      given = (
+        sym (fault ∙ ap (refusal p n lent _ e) c.len.ensures.value),
+        record {
+          number = c.in_ok-number.ensures.number;
+          value = ap (λ l. slice_get w (length l - 1)) (sym ss) ∙ c.last_value-value.ensures.value;
+          nodes = ap (λ l. map f (take (length l) w)) (sym ss) ∙ (c.evaluate.ensures.values ∙ ap (λ l. evaluate g.K.TruthKind.algebra e (map f (g.S.Source.readings c.args.source.now)) (cells f lent.plain lent.routine) l []) ss);
+          rest = ap (λ l. drop (length l) w) (sym ss) ∙ (c.evaluate.ensures.rest ∙ ap (λ l. drop (length l) c.args.working.now) ss);
+          nesting = c.next_nesting-self.ensures.value;
+          plain = λ d. c.keep.ensures.after d ∙ ap (λ ks. cells_after d ks w lent.plain) c.plain.ensures.value;
+          routine = λ d. routine_after_lem p n lent e.kind _ d w _ c.routine.ensures.value (c.keep_routine.ensures.routine d);
+          stack = stack_after_lem p n lent e.kind _ _ c.routine.ensures.value c.keep_routine.ensures.stack;
+          opened = opened_after_lem p n lent e.kind e.routine _ c.keep_routine.ensures.opened;
+        },
+      );
+      program = refl;
+    }
+
 pub evaluate-requires : goal.evaluate-requires
 evaluate-requires g c =
     let self = c.args.self.now in
@@ -40,34 +70,4 @@ keep_routine-requires g c =
       below = routine_in self.program _ _ c.routine.ensures.value (omega (arith, long.working, c.evaluate.auto.working));
       cells = omega (arith, ap length c.routine.ensures.value, long.routine);
       room = room self.nesting lent.opened c.args.event ready.fault self.roomy long.opened (length c.routine.result.now) _ (omega (arith, ap (λ l. length l * self.nesting.limit) c.routine.ensures.value, long.stack));
-    }
-
-pub returns : goal.returns
-returns g c =
-    let self = c.args.self.now in
-    let p = self.program in
-    let n = self.nesting in
-    let lent = own c.args.plain.now c.args.routine.now c.args.stack.now c.args.opened.now in
-    let e = c.args.event in
-    let f = g.K.TruthKind.means in
-    let fault = c.in_ok-number.ensures.fault in
-    let long = lists p n lent _ e _ fault in
-    let ss = c.steps-steps.ensures.value in
-    let w = c.evaluate.new.working in
-    record {
-      given = (
-        sym (fault ∙ ap (refusal p n lent _ e) c.len.ensures.value),
-        record {
-          number = c.in_ok-number.ensures.number;
-          value = ap (λ l. slice_get w (length l - 1)) (sym ss) ∙ c.last_value-value.ensures.value;
-          nodes = ap (λ l. map f (take (length l) w)) (sym ss) ∙ (c.evaluate.ensures.values ∙ ap (λ l. evaluate g.K.TruthKind.algebra e (map f (g.S.Source.readings c.args.source.now)) (cells f lent.plain lent.routine) l []) ss);
-          rest = ap (λ l. drop (length l) w) (sym ss) ∙ (c.evaluate.ensures.rest ∙ ap (λ l. drop (length l) c.args.working.now) ss);
-          nesting = c.next_nesting-self.ensures.value;
-          plain = λ d. c.keep.ensures.after d ∙ ap (λ ks. cells_after d ks w lent.plain) c.plain.ensures.value;
-          routine = λ d. routine_after_lem p n lent e.kind _ d w _ c.routine.ensures.value (c.keep_routine.ensures.routine d);
-          stack = stack_after_lem p n lent e.kind _ _ c.routine.ensures.value c.keep_routine.ensures.stack;
-          opened = opened_after_lem p n lent e.kind e.routine _ c.keep_routine.ensures.opened;
-        },
-      );
-      program = refl;
     }

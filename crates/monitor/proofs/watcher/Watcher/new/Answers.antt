@@ -26,7 +26,7 @@ returns g c =
     let routines = routine_many A p _ c.steps-2.ensures.value in
     record {
       made = (
-        not_refused p c.args.limit lent _ c.if-limit-gt-MAX_LIMIT.false c.in_default.ensures.value,
+        not_refused p c.args.limit lent _ (omega arith) c.in_default.ensures.value,
         refl,
         record {
           plain = ap (λ n. map f (take n c.write_fresh.new.cells)) (sym plains) ∙ (c.write_fresh.ensures.fresh ∙ ap (fresh_of A if_plain) c.steps.ensures.value);
