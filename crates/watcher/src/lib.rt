@@ -91,7 +91,7 @@ pub fn give_two_valued<S: Source<Kind = Two>>(
         opened,
         working,
     } = lists;
-    watcher.give(event, source, plain, routine, stack, opened, working)
+    watcher.give::<Two, S>(event, source, plain, routine, stack, opened, working)
 }
 
 // The answers of two watchers to one event.
