@@ -31,9 +31,10 @@ use Rattle.watching.specs.Calls.{depth_after, Made, Given, Accepted}
 use Rattle.watching.specs.declared.Nesting.{Nesting}
 use Rattle.watching.specs.declared.Verdict.{Verdict}
 use Rattle.runs.specs.Runs.{moment}
+use Rattle.runs.specs.Promise.{node_values}
 use Rattle.program.proofs.Facts.{routine_count}
 use Rattle.runs.proofs.Layers.{flat, Layers, stack_layers}
-use Rattle.runs.proofs.Keeping.{Shaped, Keeps, step_values, new_kept, value_means, keeps_after}
+use Rattle.runs.proofs.Keeping.{Shaped, Keeps, step_values, new_kept, nodes_mean, value_means, keeps_after}
 use Rattle.runs.proofs.Nests.{follow_last, open_within, depth_after_lem, nest_after}
 use Rattle.watching.proofs.Taken.{end_depth}
 use Rattle.watching.proofs.Passing.{Passes, passes, long}
@@ -125,9 +126,15 @@ module _ (A : Algebra) {K : Type 0} (means : K → A.Val) (p : Program) (t : Tre
         cells_same : new_kept A means p (memory_at A t h) c.keeps a ≡ new_cells_at A t h (moment A means e r)
         cells_same = ap₂ {C = Cells A.Val} (λ x y. record { plain = x; routine = y }) (ap₂ (picked A.false) values_same u.plain) (ap₂ (picked A.false) values_same u.routine) ∙ copies A L t d h (moment A means e r) begins_grown
 
+        nodes : node_count p ≡ size t
+        nodes = ap length u.steps ∙ plan_length 0 0 0 t
+
+        pub nodes_back : map means (take (size t) w') ≡ node_values A means t h (moment A means e r)
+        nodes_back = ap (λ k. map means (take k w')) (sym nodes) ∙ (nodes_mean A means p (memory_at A t h) c.keeps a ∙ (values_same ∙ sees.nodes))
+
         pub value_back : means v.value ≡ value A t grown (suc (length h))
         value_back =
-            let last : node_count p - 1 ≡ size t - 1 = ap (λ i. i - 1) (ap length u.steps ∙ plan_length 0 0 0 t) in
+            let last : node_count p - 1 ≡ size t - 1 = ap (λ i. i - 1) nodes in
             value_means A means p (memory_at A t h) c.keeps a ∙ (ap₂ (λ vs i. get_or vs i A.false) values_same last ∙ sees.rule)
 
         pub number_back : v.number ≡ suc (length h)

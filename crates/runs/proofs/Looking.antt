@@ -1,10 +1,11 @@
 -- In every run of a watcher, every event is answered by looking back.
-use Rattle.std.proofs.Common.{◌≡◌, ℕ, suc, ◌<◌, true, ◌↔◌, List, [], ◌∷◌, ◌++◌, length, is_err, Some, None, Ok, Err, Option, sym, refl, ap, ◌∙◌, subst, ap₂, append_assoc, append-nil}
+use Rattle.std.proofs.Common.{◌≡◌, ℕ, suc, ◌<◌, true, ◌↔◌, List, [], ◌∷◌, ◌++◌, map, length, take, is_err, IfOk, Some, None, Ok, Err, Option, sym, refl, ap, ◌∙◌, subst, ap₂, append_assoc, append-nil}
 use Rattle.std.proofs.lemmas.Option.{none-some}
 use borrow.Author.Tests.{clash}
 use Rattle.std.specs.Option.{option_map}
 use Rattle.std.specs.Result.{result_err}
 use Rattle.grammar.specs.Grammar.{Tree}
+use Rattle.grammar.specs.Nodes.{size}
 use Rattle.kinds.specs.Algebra.{Algebra, Laws}
 use Rattle.reels.specs.Reels.{Begins}
 use Rattle.reels.specs.Nesting.{Fault, start, follow, judged}
@@ -22,10 +23,11 @@ use Rattle.watching.specs.declared.Nesting.{Nesting}
 use Rattle.watching.specs.declared.Verdict.{Verdict}
 use Rattle.watching.specs.declared.WatchFault.{WatchFault}
 use Rattle.runs.specs.Runs.{Answer, Exchange, if_accepted, moment, accepted, Run, made, given}
-use Rattle.runs.specs.Promise.{Answered, LooksBack}
+use Rattle.runs.specs.Promise.{Answered, LooksBack, node_values}
+use Rattle.reader.specs.Rules.{TreeOf}
 use Rattle.program.proofs.Facts.{runs, predicates_all}
 use Rattle.watching.proofs.Passing.{only_fault}
-use Rattle.runs.proofs.Holding.{Holds, holds_made, same_judged, value_back, number_back, holds_accepted}
+use Rattle.runs.proofs.Holding.{Holds, holds_made, same_judged, value_back, number_back, nodes_back, holds_accepted}
 
 -- an answer is a refusal exactly where there is a fault
 pub err_fault : {K : Type 0} (f : Fault → WatchFault) (a : Answer K) (x : Option Fault) → result_err a ≡ option_map f x → (is_err a ≡ true) ↔ ((i : Fault) × (x ≡ Some i))
@@ -79,3 +81,8 @@ module _ (A : Algebra) {K : Type 0} (means : K → A.Val) where
 
 pub looks_back : (A : Algebra) → Laws A → {K : Type 0} (means : K → A.Val) → LooksBack A means
 looks_back A L means p t tree d n n' o o' w w' e r a g xs run = answered A means p n n' o o' w w' e r L t (runs p t tree) d (accepted A means xs) (holds_run A means L p t (runs p t tree) d run) a g
+
+-- and an accepted one leaves the values of the nodes by looking back
+pub nodes_left : (A : Algebra) → Laws A → {K : Type 0} (means : K → A.Val) → (p : Program) (t : Tree) → TreeOf p.rule t → (d : ℕ) (n n' : Nesting) (o o' : Own K) (w w' : List K) (e : Event) (r : List K) (a : Answer K) → Given A means p n o w e r a n' o' w' → (xs : List (Exchange K)) → Run A means p d xs n o → IfOk a (λ v. map means (take (size t) w') ≡ node_values A means t (accepted A means xs) (moment A means e r))
+nodes_left A L means p t tree d n n' o o' w w' e r (Ok v) g xs run = nodes_back A means p t d L (runs p t tree) (holds_run A means L p t (runs p t tree) d run) g
+nodes_left A L means p t tree d n n' o o' w w' e r (Err f) g xs run = tt

@@ -1,7 +1,8 @@
 -- What a watcher promises of its answers.
---   Answered   the right answer to an event after the accepted moments h, for a rule with the tree t under the depth limit d
---   LooksBack  in every run of a watcher, every event is answered so
-use Rattle.std.specs.Prelude.{◌≡◌, ℕ, suc, ◌<◌, true, ◌↔◌, List, [], ◌∷◌, ◌++◌, length, is_err, None, Ok, Option}
+--   Answered         the right answer to an event after the accepted moments h, for a rule with the tree t under the depth limit d
+--   LooksBack        in every run of a watcher, every event is answered so
+--   node_values t h m  the values of the nodes of the tree t at the moment m after the accepted moments h, in the order of the nodes
+use Rattle.std.specs.Prelude.{◌≡◌, ℕ, suc, ◌<◌, true, ◌↔◌, List, [], ◌∷◌, ◌++◌, map, length, is_err, None, Ok, Option}
 use Rattle.std.specs.Result.{result_err}
 use Rattle.grammar.specs.Grammar.{Tree}
 use Rattle.kinds.specs.Algebra.{Algebra}
@@ -11,6 +12,7 @@ use Rattle.reels.specs.declared.Event.{Event}
 use Rattle.history.specs.Moments.{Moment, events}
 use Rattle.history.specs.Value.{value}
 use Rattle.reader.specs.Rules.{TreeOf}
+use Rattle.evaluation.specs.Plan.{subtrees}
 use Rattle.program.specs.Programs.{predicates, HasAll}
 use Rattle.program.specs.declared.program.Program.{Program}
 use Rattle.watching.specs.Faults.{max_events}
@@ -35,3 +37,6 @@ module _ (A : Algebra) {K : Type 0} (means : K → A.Val) where
 
   abbrev pub LooksBack : Type 0
   LooksBack = (p : Program) (t : Tree) → TreeOf p.rule t → (d : ℕ) (n n' : Nesting) (o o' : Own K) (w w' : List K) (e : Event) (r : List K) (a : Answer K) → Given A means p n o w e r a n' o' w' → (xs : List _) → Run A means p d xs n o → Answered t d (accepted A means xs) (short_list p d o (length w)) e r a
+
+  abbrev pub node_values : Tree → List (Moment A.Val) → Moment A.Val → List A.Val
+  node_values t h m = map (λ u. value A u (h ++ m ∷ []) (suc (length h))) (subtrees t)
