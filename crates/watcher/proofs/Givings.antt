@@ -1,4 +1,5 @@
 -- A run, or two, and one event more.
+--   After   what a giving answers and leaves after any run
 use Rattle.std.proofs.Common.{◌≡◌, List, [], ◌∷◌, ◌++◌, map, Ok, Err, sym, refl, ap, subst}
 use Rattle.std.proofs.lemmas.Simd.{map-map}
 use Rattle.grammar.specs.Grammar.{Tree}
@@ -11,8 +12,10 @@ use Rattle.watching.specs.Memory.{Own}
 use Rattle.watching.specs.Calls.{Given}
 use Rattle.watching.specs.declared.Nesting.{Nesting}
 use Rattle.runs.specs.Twins.{Enough, Alike, AllAlike, AllSame}
+use Rattle.runs.proofs.Looking.{looks_back, nodes_left}
 use Rattle.runs.proofs.Twinned.{carries_over}
 use Rattle.runs.specs.Runs.{Answer, Exchange, exchange, Run, given as run_given}
+use Rattle.watcher.specs.Giving.{LooksBackAfter, LeavesNodes, GoesOn}
 
 module _ (A : Algebra) {K : Type 0} (means : K → A.Val) (p : Program) (n n' : Nesting) (o o' : Own K) (w w' : List K) (e : Event) (r : List K) where
   -- the depth limit stays
@@ -20,10 +23,22 @@ module _ (A : Algebra) {K : Type 0} (means : K → A.Val) (p : Program) (n n' : 
   same_limit (Ok v) g = ap (λ (x : Nesting). x.limit) g.1.nesting
   same_limit (Err f) g = ap (λ (x : Nesting). x.limit) g.1
 
-  pub one_more : (a : Answer K) (p' : Program) → p' ≡ p → Given A means p n o w e r a n' o' w' → (xs : List (Exchange K)) → Run A means p n.limit xs n o → Run A means p' n'.limit (xs ++ exchange e r a ∷ []) n' o'
+  one_more : (a : Answer K) (p' : Program) → p' ≡ p → Given A means p n o w e r a n' o' w' → GoesOn A means p n o e r a p' n' o'
   one_more a p' same g xs so_far =
       let on : Run A means p n.limit (xs ++ exchange e r a ∷ []) n' o' = run_given (exchange e r a) w w' so_far g in
       subst (λ q. Run A means q n'.limit (xs ++ exchange e r a ∷ []) n' o') (sym same) (subst (λ d. Run A means p d (xs ++ exchange e r a ∷ []) n' o') (sym (same_limit a g)) on)
+
+  pub record After (a : Answer K) (p' : Program) : Type 0 where
+    pub looks_back : LooksBackAfter A means p n o e r a w
+    pub leaves : LeavesNodes A means p n o e r a w'
+    pub goes_on : GoesOn A means p n o e r a p' n' o'
+
+  pub after : Laws A → (a : Answer K) (p' : Program) → p' ≡ p → Given A means p n o w e r a n' o' w' → After a p'
+  after L a p' same g = record {
+    looks_back = λ t tree xs run. looks_back A L means p t tree n.limit n n' o o' w w' e r a g xs run;
+    leaves = λ t tree xs run. nodes_left A L means p t tree n.limit n n' o o' w w' e r a g xs run;
+    goes_on = one_more a p' same g;
+  }
 
 -- two runs that are alike, and one event more
 alike_more : (B : Algebra) {K L : Type 0} (q : L → B.Val) (c : K → L) (xs : List (Exchange K)) (ys : List (Exchange L)) (x : Exchange K) (y : Exchange L) → AllAlike B q c xs ys → Alike B q c x y → AllAlike B q c (xs ++ x ∷ []) (ys ++ y ∷ [])

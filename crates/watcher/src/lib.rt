@@ -8,12 +8,12 @@ ghost use Rattle.kinds.specs.Two.{two, two_means};
 ghost use Rattle.reader.specs.Rules.{TreeOf};
 ghost use Rattle.watching.specs.Calls.{Given};
 ghost use Rattle.watching.specs.Faults.{max_limit};
-ghost use Rattle.watching.specs.Memory.{own_of, working_of, own_left, working_left, short_list};
+ghost use Rattle.watching.specs.Memory.{own_of, working_of, own_left, working_left};
 ghost use Rattle.watching.specs.declared.Verdict.{Verdict as Decision};
-ghost use Rattle.runs.specs.Promise.{Answered};
 ghost use Rattle.runs.specs.Runs.{Exchange, accepted, exchange, Run};
 ghost use Rattle.runs.specs.Twins.{Enough, AllAlike, AllSame};
 ghost use Rattle.watcher.specs.Making.{refusal_of, LongEnough, Left};
+ghost use Rattle.watcher.specs.Giving.{LooksBackAfter, LeavesNodes, GoesOn};
 ghost use Rattle.watcher.specs.Published.{Satisfies};
 
 use kinds::{TruthKind, Two};
@@ -60,8 +60,9 @@ pub fn give<K: TruthKind, S: Source<Kind = K>>(
 ) -> Result<Verdict<K>, WatchFault>
     ensures given { Given K.TruthKind.algebra K.TruthKind.means watcher.old.program watcher.old.nesting (own_of lists.entry) (working_of lists.entry) event (S.Source.readings source.now) result watcher.new.nesting (own_left lists.exit) (working_left lists.exit) }
     ensures program { watcher.new.program ≡ watcher.old.program }
-    ensures looks_back { (t : Tree) → TreeOf watcher.old.program.rule t → (xs : List (Exchange K)) → Run K.TruthKind.algebra K.TruthKind.means watcher.old.program watcher.old.nesting.limit xs watcher.old.nesting (own_of lists.entry) → Answered K.TruthKind.algebra K.TruthKind.means t watcher.old.nesting.limit (accepted K.TruthKind.algebra K.TruthKind.means xs) (short_list watcher.old.program watcher.old.nesting.limit (own_of lists.entry) (length (working_of lists.entry))) event (S.Source.readings source.now) result }
-    ensures goes_on { (xs : List (Exchange K)) → Run K.TruthKind.algebra K.TruthKind.means watcher.old.program watcher.old.nesting.limit xs watcher.old.nesting (own_of lists.entry) → Run K.TruthKind.algebra K.TruthKind.means watcher.new.program watcher.new.nesting.limit (xs ++ exchange event (S.Source.readings source.now) result ∷ []) watcher.new.nesting (own_left lists.exit) }
+    ensures looks_back { LooksBackAfter K.TruthKind.algebra K.TruthKind.means watcher.old.program watcher.old.nesting (own_of lists.entry) event (S.Source.readings source.now) result (working_of lists.entry) }
+    ensures leaves { LeavesNodes K.TruthKind.algebra K.TruthKind.means watcher.old.program watcher.old.nesting (own_of lists.entry) event (S.Source.readings source.now) result (working_left lists.exit) }
+    ensures goes_on { GoesOn K.TruthKind.algebra K.TruthKind.means watcher.old.program watcher.old.nesting (own_of lists.entry) event (S.Source.readings source.now) result watcher.new.program watcher.new.nesting (own_left lists.exit) }
 {
     let Lists {
         plain,
@@ -82,6 +83,9 @@ pub fn give_two_valued<S: Source<Kind = Two>>(
 ) -> Result<Verdict<Two>, WatchFault>
     ensures given { Given two two_means watcher.old.program watcher.old.nesting (own_of lists.entry) (working_of lists.entry) event (S.Source.readings source.now) result watcher.new.nesting (own_left lists.exit) (working_left lists.exit) }
     ensures program { watcher.new.program ≡ watcher.old.program }
+    ensures looks_back { LooksBackAfter two two_means watcher.old.program watcher.old.nesting (own_of lists.entry) event (S.Source.readings source.now) result (working_of lists.entry) }
+    ensures leaves { LeavesNodes two two_means watcher.old.program watcher.old.nesting (own_of lists.entry) event (S.Source.readings source.now) result (working_left lists.exit) }
+    ensures goes_on { GoesOn two two_means watcher.old.program watcher.old.nesting (own_of lists.entry) event (S.Source.readings source.now) result watcher.new.program watcher.new.nesting (own_left lists.exit) }
     ensures published { (t : Tree) → TreeOf watcher.old.program.rule t → (xs : List (Exchange Two)) → Run two two_means watcher.old.program watcher.old.nesting.limit xs watcher.old.nesting (own_of lists.entry) → IfOk result (λ v. Satisfies t (accepted two two_means xs) event (S.Source.readings source.now) v) }
 {
     let Lists {
@@ -111,7 +115,13 @@ pub fn give_both<K: TruthKind, L: TruthKind, M: CarryingMap<From = K, To = L>, S
     carried_lists: Lists<L>,
 ) -> Twins<K, L>
     ensures first { Given K.TruthKind.algebra K.TruthKind.means first.old.program first.old.nesting (own_of lists.entry) (working_of lists.entry) event (S.Source.readings carried.now.source) result.first first.new.nesting (own_left lists.exit) (working_left lists.exit) }
+    ensures first_looks_back { LooksBackAfter K.TruthKind.algebra K.TruthKind.means first.old.program first.old.nesting (own_of lists.entry) event (S.Source.readings carried.now.source) result.first (working_of lists.entry) }
+    ensures first_leaves { LeavesNodes K.TruthKind.algebra K.TruthKind.means first.old.program first.old.nesting (own_of lists.entry) event (S.Source.readings carried.now.source) result.first (working_left lists.exit) }
+    ensures first_goes_on { GoesOn K.TruthKind.algebra K.TruthKind.means first.old.program first.old.nesting (own_of lists.entry) event (S.Source.readings carried.now.source) result.first first.new.program first.new.nesting (own_left lists.exit) }
     ensures second { Given L.TruthKind.algebra L.TruthKind.means second.old.program second.old.nesting (own_of carried_lists.entry) (working_of carried_lists.entry) event (map (M.CarryingMap.carried carried.now.map) (S.Source.readings carried.now.source)) result.second second.new.nesting (own_left carried_lists.exit) (working_left carried_lists.exit) }
+    ensures second_looks_back { LooksBackAfter L.TruthKind.algebra L.TruthKind.means second.old.program second.old.nesting (own_of carried_lists.entry) event (map (M.CarryingMap.carried carried.now.map) (S.Source.readings carried.now.source)) result.second (working_of carried_lists.entry) }
+    ensures second_leaves { LeavesNodes L.TruthKind.algebra L.TruthKind.means second.old.program second.old.nesting (own_of carried_lists.entry) event (map (M.CarryingMap.carried carried.now.map) (S.Source.readings carried.now.source)) result.second (working_left carried_lists.exit) }
+    ensures second_goes_on { GoesOn L.TruthKind.algebra L.TruthKind.means second.old.program second.old.nesting (own_of carried_lists.entry) event (map (M.CarryingMap.carried carried.now.map) (S.Source.readings carried.now.source)) result.second second.new.program second.new.nesting (own_left carried_lists.exit) }
     ensures carried { second.old.program.rule ≡ first.old.program.rule → second.old.nesting.limit ≡ first.old.nesting.limit → (t : Tree) → TreeOf first.old.program.rule t → (xs : List (Exchange K)) (ys : List (Exchange L)) → Run K.TruthKind.algebra K.TruthKind.means first.old.program first.old.nesting.limit xs first.old.nesting (own_of lists.entry) → Run L.TruthKind.algebra L.TruthKind.means second.old.program second.old.nesting.limit ys second.old.nesting (own_of carried_lists.entry) → AllAlike L.TruthKind.algebra L.TruthKind.means (M.CarryingMap.carried carried.now.map) xs ys → Enough (exchange event (S.Source.readings carried.now.source) result.first) → Enough (exchange event (map (M.CarryingMap.carried carried.now.map) (S.Source.readings carried.now.source)) result.second) → AllSame L.TruthKind.algebra L.TruthKind.means (M.CarryingMap.carried carried.now.map) (xs ++ exchange event (S.Source.readings carried.now.source) result.first ∷ []) (ys ++ exchange event (map (M.CarryingMap.carried carried.now.map) (S.Source.readings carried.now.source)) result.second ∷ []) }
     ensures programs { (first.new.program ≡ first.old.program) × (second.new.program ≡ second.old.program) }
 {
