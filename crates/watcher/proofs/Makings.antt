@@ -6,6 +6,7 @@ use Rattle.grammar.specs.Grammar.{Tree}
 use Rattle.grammar.specs.Nodes.{size}
 use Rattle.kinds.specs.Algebra.{Algebra}
 use Rattle.reader.specs.declared.rule.Rule.{Rule}
+use Rattle.reader.specs.Rules.{TreeOf}
 use Rattle.evaluation.specs.Plan.{plain_cells as tree_plain, routine_cells as tree_routine}
 use Rattle.evaluation.proofs.Orders.{plan_length}
 use Rattle.program.specs.Programs.{Runs}
@@ -42,13 +43,13 @@ pub ok_answer : {X E : Type 0} (r : Result X E) → result_err r ≡ None → is
 ok_answer (Ok x) e = refl
 ok_answer (Err f) e = absurd (none-some _ (sym e))
 
-module _ (A : Algebra) {K : Type 0} (means : K → A.Val) (p : Program) (rule : Rule) (from : p.rule ≡ rule) (d : ℕ) (o o' : Own K) (w w' : List K) where
+module _ (A : Algebra) {K : Type 0} (means : K → A.Val) (p : Program) (rule : Rule) (from : p.rule ≡ rule) (runs : (t : Tree) → TreeOf rule t → Runs p t) (d : ℕ) (o o' : Own K) (w w' : List K) where
   pub made_fault : (r : Result Watcher WatchFault) → Made A means p d o w (nesting_in r) o' w' → result_err r ≡ making_refusal p d o (length w)
   made_fault (Ok x) m = sym m.0
   made_fault (Err f) m = sym m.0
 
   pub made_left : (r : Result Watcher WatchFault) → Made A means p d o w (nesting_in r) o' w' → IfOk r (λ x. x.program ≡ p) → Left A means rule d o w r o' w'
-  made_left (Ok x) m e = record { rule = ap (λ (q : Program). q.rule) e ∙ from; nesting = m.1; cells = subst (λ q. Fresh A means q o w o' w') (sym e) m.2 }
+  made_left (Ok x) m e = record { rule = ap (λ (q : Program). q.rule) e ∙ from; runs = λ t tree. subst (λ q. Runs q t) (sym e) (runs t tree); nesting = m.1; cells = subst (λ q. Fresh A means q o w o' w') (sym e) m.2 }
   made_left (Err f) m e = (m.1, m.2)
 
   pub made_begins : (r : Result Watcher WatchFault) → Made A means p d o w (nesting_in r) o' w' → IfOk r (λ x. x.program ≡ p) → IfOk r (λ x. Run A means x.program d [] x.nesting o')

@@ -2,12 +2,15 @@
 --   short_of t d o n      the first list that is too short for a rule with the tree t under the depth limit d; n is the length of list 5
 --   refusal_of t d o n    the refusal of a making, or nothing where a watcher is made
 --   LongEnough t d o n   every list is long enough
---   Left                 what a making leaves: of a watcher, its rule, its nesting and its cells; of a refusal, every list as it was
+--   Left                 what a making leaves: of a watcher, its rule, that its program runs it, its nesting and its cells; of a
+--                        refusal, every list as it was
 use Rattle.std.specs.Prelude.{◌≡◌, ℕ, ◌*◌, ◌≤◌, List, length, Ok, Err, Option, Result}
 use Rattle.grammar.specs.Grammar.{Tree}
 use Rattle.grammar.specs.Nodes.{size}
 use Rattle.kinds.specs.Algebra.{Algebra}
 use Rattle.reader.specs.declared.rule.Rule.{Rule}
+use Rattle.reader.specs.Rules.{TreeOf}
+use Rattle.program.specs.Programs.{Runs}
 use Rattle.evaluation.specs.Plan.{plain_cells, routine_cells}
 use Rattle.watching.specs.Memory.{Own, short_for}
 use Rattle.watching.specs.Refusals.{making_refusal_by}
@@ -32,6 +35,7 @@ pub record LongEnough {V : Type 0} (t : Tree) (d : ℕ) (o : Own V) (n : ℕ) : 
 module _ (A : Algebra) {K : Type 0} (means : K → A.Val) where
   pub record Ready (from : Rule) (d : ℕ) (o : Own K) (w : List K) (watcher : Watcher) (o' : Own K) (w' : List K) : Type 0 where
     pub rule : watcher.program.rule ≡ from
+    pub runs : (t : Tree) → TreeOf from t → Runs watcher.program t
     pub nesting : watcher.nesting ≡ first_nesting d
     pub cells : Fresh A means watcher.program o w o' w'
 
