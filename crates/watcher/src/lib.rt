@@ -27,10 +27,10 @@ use watching::{Lists, Verdict, WatchFault};
 
 // Makes a watcher of the rule, under a depth limit, over lent memory.
 pub fn make<K: TruthKind>(rule: &Rule, limit: usize, lists: Lists<K>) -> Result<Watcher, WatchFault>
+    ensures accepts { (t : Tree) → TreeOf rule.now t → limit ≤ max_limit → LongEnough t limit (own_of lists.entry) (length (working_of lists.entry)) → is_ok result ≡ true }
     ensures some_tree { ∥ ((t : Tree) × TreeOf rule.now t) ∥₁ }
     ensures refusal { (t : Tree) → TreeOf rule.now t → result_err result ≡ refusal_of t limit (own_of lists.entry) (length (working_of lists.entry)) }
     ensures left { Left K.TruthKind.algebra K.TruthKind.means rule.now limit (own_of lists.entry) (working_of lists.entry) result (own_left lists.exit) (working_left lists.exit) }
-    ensures accepts { (t : Tree) → TreeOf rule.now t → limit ≤ max_limit → LongEnough t limit (own_of lists.entry) (length (working_of lists.entry)) → is_ok result ≡ true }
     ensures begins { IfOk result (λ w. Run K.TruthKind.algebra K.TruthKind.means w.program limit [] w.nesting (own_left lists.exit)) }
 {
     let Lists {
