@@ -1,5 +1,6 @@
 -- What holds of an event that is not refused, and the answer to it.
-use Rattle.std.proofs.Common.{◌≡◌, ℕ, ◌<◌, ◌≤◌, List, [], ◌∷◌, length, get_or, None, sym, refl, ap, ◌∙◌, subst, arith}
+use Rattle.std.proofs.Common.{◌≡◌, ℕ, ◌<◌, ◌≤◌, List, [], ◌∷◌, length, get_or, Some, None, Err, Result, sym, refl, ap, ◌∙◌, subst, arith}
+use Rattle.kinds.specs.Algebra.{Algebra}
 use Rattle.reels.specs.Nesting.{judged}
 use Rattle.reels.specs.declared.Event.{Event}
 use Rattle.reels.specs.declared.EventKind.{EventKind}
@@ -8,11 +9,13 @@ use Rattle.evaluation.specs.declared.Step.TheVariants.{True, False, Kind, Predic
 use Rattle.program.specs.Programs.{steps, plain_numbers, routine_numbers, wanted, Fits, Sound}
 use Rattle.program.specs.declared.program.Program.{Program}
 use Rattle.program.proofs.Facts.{sound, plain_below, routine_below}
-use Rattle.watching.specs.Calls.{routine_after, stack_after, opened_after}
+use Rattle.watching.specs.Calls.{Given, routine_after, stack_after, opened_after}
 use Rattle.watching.specs.Memory.{Own, plain_cells, routine_cells, node_count, short_list}
 use Rattle.watching.specs.Refusals.{nest_of, number_of, refusal}
 use Rattle.watching.specs.declared.Nesting.{Nesting}
 use Rattle.watching.specs.declared.OpenRoutine.{OpenRoutine}
+use Rattle.watching.specs.declared.Verdict.{Verdict}
+use Rattle.watching.specs.declared.WatchFault.{WatchFault}
 use Rattle.monitor.specs.Keeping.{routine_kept, stack_kept, opened_kept}
 use Rattle.watching.proofs.Passing.{Passes, passes, Long, long}
 
@@ -91,3 +94,7 @@ module _ {V : Type 0} (p : Program) (n : Nesting) (o : Own V) (w : ℕ) (e : Eve
 
   pub lists : Long p n.limit o w
   lists = long p n.limit o w free.short
+
+-- a refusal leaves all as it was
+pub refused : (A : Algebra) {K : Type 0} (means : K → A.Val) (p : Program) (n : Nesting) (o : Own K) (w : List K) (e : Event) (r : List K) (a : Result (Verdict K) WatchFault) (f : WatchFault) → a ≡ Err f → Some f ≡ refusal p n o (length w) e (length r) → Given A means p n o w e r a n o w
+refused A means p n o w e r a f q fault = rw q (sym fault, refl, refl, refl)

@@ -1,13 +1,24 @@
-use Rattle.std.proofs.Common.{◌-◌, ◌*◌, [], map, length, take, drop, sym, refl, ap, ◌∙◌, arith}
+use Rattle.std.proofs.Common.{◌≡◌, ◌-◌, ◌*◌, [], map, length, take, drop, Err, sym, refl, ap, ◌∙◌, arith}
 use Rattle.std.specs.List.{slice_get}
+use Rattle.std.proofs.lemmas.Result.{err_from_is_err_and}
 use Rattle.evaluation.specs.Steps.{evaluate}
 use Rattle.program.proofs.Facts.{steps_some}
 use Rattle.watching.specs.Calls.{cells_after}
 use Rattle.watching.specs.Refusals.{refusal}
 use Rattle.monitor.specs.Own.{own, cells}
-use Rattle.monitor.proofs.Giving.{sound_in, plain_in, routine_in, routine_after_lem, stack_after_lem, opened_after_lem, free, lists}
+use Rattle.monitor.proofs.Giving.{sound_in, plain_in, routine_in, routine_after_lem, stack_after_lem, opened_after_lem, free, lists, refused}
 use Rattle.monitor.proofs.Rooms.{room}
 use Rattle.monitor.proofs.watcher.Watcher.give.Goals as goal
+
+-- a refusal leaves all as it was
+pub returns-in_err-number : goal.returns-in_err-number
+returns-in_err-number g c =
+    let self = c.args.self.now in
+    let lent = own c.args.plain.now c.args.routine.now c.args.stack.now c.args.opened.now in
+    let e = c.args.event in
+    let p = err_from_is_err_and c.from_residual.result c.from_residual.ensures.1 in
+    let answer : c.from_residual.result ≡ Err c.in_err-number.field-0.0 = cc (p.1, p.2) in
+    record { given = refused g.K.TruthKind.algebra g.K.TruthKind.means self.program self.nesting lent _ e (g.S.Source.readings c.args.source.now) c.from_residual.result _ answer (c.in_err-number.ensures.fault ∙ ap (refusal self.program self.nesting lent _ e) c.len.ensures.value); program = refl }
 
 pub returns : goal.returns
 returns g c =
