@@ -18,7 +18,7 @@ use Rattle.watching.specs.declared.Verdict.{Verdict}
 use Rattle.watching.specs.declared.EventFault.TheVariants.{NotInnermost}
 use Rattle.watching.specs.declared.WatchFault.TheVariants.{AtEvent}
 use Rattle.runs.specs.Runs.{Answer, if_accepted, accepted}
-use Rattle.promise.specs.ShutOut.{first_verdict, FirstEventOnly, OneVerdict, NoCells, SourceNotAsked, MadeUpNumbers, RefusedNumbered, RefusedWithoutCause, TooDeepEarly}
+use Rattle.promise.specs.ShutOut.{first_verdict, FirstEventOnly, LaterEventsToo, OneVerdict, NoCells, SourceNotAsked, MadeUpNumbers, RefusedNumbered, RefusedWithoutCause, TooDeepEarly}
 use Rattle.promise.specs.Trees.{word, p}
 use Rattle.promise.specs.Watchers.{Answering, put, none, more, past, Keeps}
 use Rattle.runs.proofs.Twinned.{error_of}
@@ -74,6 +74,9 @@ first_event_only d f keeps wrong =
     let b = second (p 0) p0_asks d f keeps Yes No in
     let same = wrong _ _ _ a.verdict b.verdict b.gives (first_is f a_step_event (Yes ∷ []) a.verdict a.gives.verdict) in
     not_both b.verdict.value a.verdict.value same (no_second d f keeps) (yes_first d f keeps)
+
+pub later_events_too : LaterEventsToo
+later_events_too t d f keeps w = w.wrong ((keeps w.exchanges w.gives.exchanged w.event w.reading).verdict w.verdict w.gives.verdict).1
 
 pub one_verdict : OneVerdict
 one_verdict d f keeps wrong =

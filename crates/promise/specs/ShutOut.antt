@@ -3,6 +3,8 @@
 --   KeptBySome       for every rule and depth limit, something keeps the promise: no statement below is idle
 -- The wrong ways, each with the statement that shuts it out:
 --   RepeatsFirst     FirstEventOnly         every later verdict has the value of the first one
+--   WrongLater       LaterEventsToo         some verdict after accepted events has another value than by looking back, however right
+--                                           the answers are where nothing was accepted
 --   OneValue         OneVerdict             all verdicts have one value
 --   Forgets          NoCells                an event gets the value that it would get as the first, whatever was accepted before it
 --   NeverAsks        SourceNotAsked         the answer is the same for all readings of one length
@@ -18,17 +20,19 @@
 use Rattle.std.specs.Prelude.{◌≡◌, ℕ, suc, ◌<◌, ◌≤◌, true, List, [], ◌∷◌, ◌++◌, length, is_err, Some, None, Ok, Err, Option, ◌≢◌}
 use Rattle.words.specs.declared.Operator.TheVariants.{Before}
 use Rattle.grammar.specs.Grammar.{Tree, one}
+use Rattle.kinds.specs.Two.{two, two_means}
 use Rattle.kinds.specs.declared.two.Two.{Two}
 use Rattle.reels.specs.Reels.{event, Begins}
 use Rattle.reels.specs.declared.Event.{Event}
 use Rattle.reels.specs.declared.EventKind.TheVariants.{Call}
 use Rattle.history.specs.Moments.{events, open_at}
+use Rattle.history.specs.Value.{value}
 use Rattle.program.specs.Programs.{HasAll}
 use Rattle.program.specs.declared.program.Program.{Program}
 use Rattle.watching.specs.Faults.{max_limit, max_events}
 use Rattle.watching.specs.Memory.{Own, short_list}
 use Rattle.watching.specs.declared.Verdict.{Verdict}
-use Rattle.runs.specs.Runs.{Exchange}
+use Rattle.runs.specs.Runs.{Exchange, moment}
 use Rattle.promise.specs.Trees.{word, p}
 use Rattle.promise.specs.Watchers.{Answering, Exchanged, past, Gives, Keeps, Making, Makes}
 
@@ -48,6 +52,18 @@ RepeatsFirst f = (xs : List (Exchange Two)) (e : Event) (r : List Two) (u v : Ve
 
 abbrev pub FirstEventOnly : Type 0
 FirstEventOnly = (d : ℕ) → ShutsOut (p 0) d RepeatsFirst
+
+pub record WrongLater (t : Tree) (f : Answering Two) : Type 0 where
+  pub exchanges : List (Exchange Two)
+  pub event : Event
+  pub reading : List Two
+  pub verdict : Verdict Two
+  pub gives : Gives f exchanges event reading verdict
+  pub later : 0 < length (past exchanges)
+  pub wrong : two_means verdict.value ≢ value two t (past exchanges ++ moment two two_means event reading ∷ []) (suc (length (past exchanges)))
+
+abbrev pub LaterEventsToo : Type 0
+LaterEventsToo = (t : Tree) (d : ℕ) → ShutsOut t d (WrongLater t)
 
 abbrev pub OneValue : Answering Two → Type 0
 OneValue f = (x : Two) × ((xs : List (Exchange Two)) (e : Event) (r : List Two) (v : Verdict Two) → Gives f xs e r v → v.value ≡ x)
