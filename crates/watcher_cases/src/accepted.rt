@@ -11,33 +11,33 @@ pub struct Accepted {
 }
 
 impl Accepted {
-    pub fn new(alloc: Global) -> Accepted {
+    pub(crate) fn new(alloc: Global) -> Accepted {
         Accepted {
             events: Vec::new(alloc),
             open: Vec::new(alloc),
         }
     }
 
-    pub fn len(&self) -> usize {
+    pub(crate) fn len(&self) -> usize {
         self.events.len()
     }
 
-    pub fn last(&self) -> Option<Event> {
+    pub(crate) fn last(&self) -> Option<Event> {
         self.events.last().copied()
     }
 
     // Whether the last event has the kind.
-    pub fn ends_in(&self, kind: EventKind) -> bool {
+    pub(crate) fn ends_in(&self, kind: EventKind) -> bool {
         self.last().is_some_and(|event| event.kind == kind)
     }
 
     // How many routines are open.
-    pub fn depth(&self) -> u32 {
+    pub(crate) fn depth(&self) -> u32 {
         self.open.last().copied().unwrap_or(0)
     }
 
     // One event more.
-    pub fn push(&mut self, event: Event) -> io::Result<()> {
+    pub(crate) fn push(&mut self, event: Event) -> io::Result<()> {
         let depth = self.depth();
         let open = match event.kind {
             EventKind::Begin => depth.saturating_add(1),
@@ -62,7 +62,7 @@ impl Accepted {
     }
 
     // The place of the call that the last event belongs to, where that is a return.
-    pub fn call(&self) -> Option<usize> {
+    pub(crate) fn call(&self) -> Option<usize> {
         if !self.ends_in(EventKind::Return) {
             return None;
         }
@@ -71,7 +71,7 @@ impl Accepted {
     }
 
     // The innermost of the open routines.
-    pub fn innermost(&self) -> Option<u16> {
+    pub(crate) fn innermost(&self) -> Option<u16> {
         if self.depth() == 0 {
             return None;
         }
@@ -80,7 +80,7 @@ impl Accepted {
     }
 
     // The number of the refusal that the nesting of the accepted events gives the next one.
-    pub fn refusal(&self, event: Event, limit: usize) -> Option<u16> {
+    pub(crate) fn refusal(&self, event: Event, limit: usize) -> Option<u16> {
         if (event.kind == EventKind::Step) != (event.routine == 0) {
             return Some(31);
         }

@@ -19,7 +19,7 @@ pub struct Odds {
 }
 
 // An event that may come behind the accepted ones, or any.
-pub fn event(accepted: &Accepted, odds: Odds, random: &mut Random) -> Event {
+pub(crate) fn event(accepted: &Accepted, odds: Odds, random: &mut Random) -> Event {
     if random.once_in(12) {
         return any_event(random);
     }

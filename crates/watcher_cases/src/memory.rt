@@ -16,7 +16,7 @@ pub struct Memory<K> {
 }
 
 impl<K: TruthKind> Memory<K> {
-    pub fn new(alloc: Global, nodes: &[Node], limit: usize) -> io::Result<Memory<K>> {
+    pub(crate) fn new(alloc: Global, nodes: &[Node], limit: usize) -> io::Result<Memory<K>> {
         let routine = nodes.iter().filter(|node| asks_routine(node)).count();
         let closed = OpenRoutine {
             routine: 0,
@@ -36,7 +36,7 @@ impl<K: TruthKind> Memory<K> {
     }
 
     // The lists, of which the one with the number `short`, if any, is one place shorter.
-    pub fn lend(&mut self, short: usize) -> Lists<'_, K> {
+    pub(crate) fn lend(&mut self, short: usize) -> Lists<'_, K> {
         Lists {
             plain: front(&mut self.plain, short == 1),
             routine: front(&mut self.routine, short == 2),
@@ -47,7 +47,7 @@ impl<K: TruthKind> Memory<K> {
     }
 
     // Whether there is a list with the number `short` and with a place to spare.
-    pub fn has_place(&self, short: usize) -> bool {
+    pub(crate) fn has_place(&self, short: usize) -> bool {
         match short {
             1 => !self.plain.is_empty(),
             2 => !self.routine.is_empty(),
@@ -59,12 +59,12 @@ impl<K: TruthKind> Memory<K> {
     }
 
     // The values of the nodes.
-    pub fn working(&self) -> &[K] {
+    pub(crate) fn working(&self) -> &[K] {
         self.working.as_slice()
     }
 
     // Writes over the list that is free between two calls.
-    pub fn spoil(&mut self, value: K) {
+    pub(crate) fn spoil(&mut self, value: K) {
         for place in self.working.iter_mut() {
             *place = value;
         }

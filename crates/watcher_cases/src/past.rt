@@ -20,7 +20,7 @@ pub struct Past<K> {
 
 impl<K: TruthKind> Past<K> {
     // Nothing accepted of a rule with so many nodes.
-    pub fn new(alloc: Global, nodes: usize) -> Past<K> {
+    pub(crate) fn new(alloc: Global, nodes: usize) -> Past<K> {
         Past {
             accepted: Accepted::new(alloc),
             hidden: Vec::new(alloc),
@@ -30,7 +30,7 @@ impl<K: TruthKind> Past<K> {
     }
 
     // One event more, which no refusal meets.
-    pub fn accept<S: Source<Kind = K>>(
+    pub(crate) fn accept<S: Source<Kind = K>>(
         &mut self,
         nodes: &[Node],
         event: Event,
@@ -71,7 +71,7 @@ impl<K: TruthKind> Past<K> {
     }
 
     // The values of all nodes at the last event.
-    pub fn latest(&self) -> &[K] {
+    pub(crate) fn latest(&self) -> &[K] {
         let at = self.last().saturating_mul(self.nodes);
         self.values.get(at..).unwrap_or(&[])
     }

@@ -9,12 +9,12 @@ pub struct Random {
 
 impl Random {
     // The numbers of a seed.
-    pub fn new(seed: u64) -> Random {
+    pub(crate) fn new(seed: u64) -> Random {
         Random { state: seed | 1 }
     }
 
     // The next number of 64 bits.
-    pub fn next(&mut self) -> u64 {
+    pub(crate) fn next(&mut self) -> u64 {
         let mut state = self.state;
         state ^= state << 13;
         state ^= state >> 7;
@@ -24,7 +24,7 @@ impl Random {
     }
 
     // A number below the bound; 0 where there is none.
-    pub fn below(&mut self, bound: u32) -> u32
+    pub(crate) fn below(&mut self, bound: u32) -> u32
         ensures within { result ≤ bound }
     {
         let drawn = (self.next() >> 32) as u32;
@@ -32,12 +32,12 @@ impl Random {
     }
 
     // True once in so many draws.
-    pub fn once_in(&mut self, draws: u32) -> bool {
+    pub(crate) fn once_in(&mut self, draws: u32) -> bool {
         self.below(draws) == 0
     }
 
     // An element of the list.
-    pub fn element<T: Copy>(&mut self, list: &[T]) -> Option<T> {
+    pub(crate) fn element<T: Copy>(&mut self, list: &[T]) -> Option<T> {
         let at = self.below(list.len().min(1000) as u32);
         list.get(at as usize).copied()
     }

@@ -121,7 +121,7 @@ fn damage(text: &mut Vec<u8>, random: &mut Random) {
 }
 
 // Draws a rule text.
-pub fn rule_text(alloc: Global, random: &mut Random) -> io::Result<Vec<u8>> {
+pub(crate) fn rule_text(alloc: Global, random: &mut Random) -> io::Result<Vec<u8>> {
     let mut draft = Draft {
         text: Vec::new(alloc),
         pieces: vec![in alloc; Piece::Rule(random.below(20))]?,

@@ -32,7 +32,7 @@ const EVENTS: [(EventKind, u16, u64); 7] = [
 ];
 
 // Prints each rule with its verdicts.
-pub fn show_rules(rt: &impl Print, alloc: Global) -> io::Result<()> {
+pub(crate) fn show_rules(rt: &impl Print, alloc: Global) -> io::Result<()> {
     for text in RULES {
         show_rule(rt, alloc, text)?;
     }

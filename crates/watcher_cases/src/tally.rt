@@ -21,12 +21,12 @@ pub struct Tally {
 }
 
 // What the refusal of a watcher shows.
-pub fn shown(fault: WatchFault) -> Refusal {
+pub(crate) fn shown(fault: WatchFault) -> Refusal {
     Refusal::from(fault)
 }
 
 impl Tally {
-    pub fn new(alloc: Global) -> Tally {
+    pub(crate) fn new(alloc: Global) -> Tally {
         Tally {
             rules: 0,
             text: Vec::new(alloc),
@@ -40,7 +40,7 @@ impl Tally {
     }
 
     // One rule more, of the text.
-    pub fn begin(&mut self, text: &[u8]) -> io::Result<()> {
+    pub(crate) fn begin(&mut self, text: &[u8]) -> io::Result<()> {
         self.rules = self.rules.saturating_add(1);
         self.text.clear();
         self.text.extend_from_slice(text)?;
@@ -48,14 +48,14 @@ impl Tally {
     }
 
     // One refusal more of the number.
-    pub fn refuse(&mut self, number: u16) {
+    pub(crate) fn refuse(&mut self, number: u16) {
         if let Some(count) = self.refusals.get_mut(usize::from(number)) {
             *count = count.saturating_add(1);
         }
     }
 
     // Compares two answers to event number `event` of the latest rule; a making is event 0.
-    pub fn compare<A: PartialEq + Debug>(
+    pub(crate) fn compare<A: PartialEq + Debug>(
         &mut self,
         event: usize,
         given: &A,
@@ -74,7 +74,7 @@ impl Tally {
     }
 
     // Prints all of it.
-    pub fn show(&self, rt: &impl Print, name: &str) -> io::Result<()> {
+    pub(crate) fn show(&self, rt: &impl Print, name: &str) -> io::Result<()> {
         let Tally {
             rules,
             events,

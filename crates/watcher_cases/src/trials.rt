@@ -22,7 +22,7 @@ pub struct Trial {
 
 impl Trial {
     // Runs all of it, and prints what was counted.
-    pub fn run<D: Draw>(
+    pub(crate) fn run<D: Draw>(
         self,
         rt: &impl Print,
         alloc: Global,

@@ -47,7 +47,7 @@ impl<K: TruthKind + PartialEq + Debug, L: TruthKind + PartialEq + Debug> Case
 
 impl<K: TruthKind + PartialEq + Debug, L: TruthKind + PartialEq + Debug> WatchedTwins<K, L> {
     // Gives both watchers an event, and compares each answer with what looking back gives, and the second with the first, carried.
-    pub fn give<M: CarryingMap<From = K, To = L>, S: Source<Kind = K>>(
+    pub(crate) fn give<M: CarryingMap<From = K, To = L>, S: Source<Kind = K>>(
         &mut self,
         event: Event,
         carried: &Carried<S, M>,

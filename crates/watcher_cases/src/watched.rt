@@ -57,7 +57,7 @@ impl<K: TruthKind + PartialEq + Debug> Case for Watched<K> {
 
 impl<K: TruthKind + PartialEq + Debug> Watched<K> {
     // Gives the watcher an event, with list number `short` one place too short.
-    pub fn give<S: Source<Kind = K>>(
+    pub(crate) fn give<S: Source<Kind = K>>(
         &mut self,
         event: Event,
         source: &S,
@@ -69,7 +69,7 @@ impl<K: TruthKind + PartialEq + Debug> Watched<K> {
     }
 
     // Compares the answer to an event with what looking back gives.
-    pub fn compare<S: Source<Kind = K>>(
+    pub(crate) fn compare<S: Source<Kind = K>>(
         &mut self,
         event: Event,
         source: &S,
