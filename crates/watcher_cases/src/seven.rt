@@ -61,9 +61,7 @@ fn show_rule(rt: &impl Print, alloc: Global, text: &str) -> io::Result<()> {
 // Prints a value behind a space.
 fn show_value(rt: &impl Print, value: Two) -> io::Result<()> {
     let mut line = [0; TEXT_LIMIT];
-    let Ok(len) = value.write_text(&mut line) else {
-        return Ok(());
-    };
-    let text = line.get(..len).unwrap_or(&[]);
+    let len = value.write_text(&mut line).unwrap();
+    let text = &line[..len];
     print!(rt; " {}", str::from_utf8(text).unwrap_or("?"))
 }
