@@ -1,16 +1,14 @@
 // The decimal text of a number.
-ghost use Rattle.std.specs.Prelude.{◌≡◌, decimal};
-ghost use Rattle.fixed_vec.specs.Elements.{elements};
+ghost use Rattle.std.specs.Prelude.{◌≡◌, ◌≤◌, drop, decimal};
 
-use fixed_vec::FixedVec;
-use itoa::Buffer;
-
-// The digits lie on the stack, since nothing here allocates: a number of 64 bits has at most 20.
+// The digits stand at the end of the array, from the place `from` on.
 #[derive(Drop)]
 pub struct Decimal {
     pub(crate) number: u64,
-    pub(crate) digits: FixedVec<u8, 20>,
-    ghost spelled: { elements digits ≡ decimal number },
+    pub(crate) digits: [u8; 20],
+    pub(crate) from: usize,
+    ghost within: { from ≤ 20 },
+    ghost spelled: { drop from digits ≡ decimal number },
 }
 
 impl Decimal {
@@ -18,15 +16,26 @@ impl Decimal {
     pub fn new(number: u64) -> Decimal
         ensures value { result.number ≡ number }
     {
-        let mut digits = FixedVec::new(0);
-        digits.append(Buffer::new().format(number).as_bytes());
-        Decimal { number, digits }
+        let mut digits = [0; 20];
+        let mut from = 19;
+        digits[from] = b'0' + (number % 10) as u8;
+        let mut rest = number / 10;
+        while rest > 0 {
+            from -= 1;
+            digits[from] = b'0' + (rest % 10) as u8;
+            rest /= 10;
+        }
+        Decimal {
+            number,
+            digits,
+            from,
+        }
     }
 
     // The digits, without leading zeros.
     pub fn bytes(&self) -> &[u8]
         ensures value { result.now ≡ decimal self.now.number }
     {
-        self.digits.as_slice()
+        &self.digits[self.from..]
     }
 }
