@@ -15,7 +15,7 @@ use Rattle.fixed_vec.specs.Elements.{elements}
 use Rattle.lexer.specs.Answers.{Next, left, text_of}
 use Rattle.lexer.specs.declared.lexer.Lexer.{Lexer}
 use Rattle.lexer.specs.declared.Placed.{Placed}
-use Rattle.reader.specs.Reading.{Grown, behind, bytes, SameText, ReadUnit, ReadRule}
+use Rattle.reader.specs.Reading.{Grown, behind, bytes, SameText, UnitBy, ReadUnit, ReadRule}
 use Rattle.reader.specs.declared.draft.Draft.{Draft}
 use Rattle.reader.specs.declared.parser.Parser.{Parser}
 use Rattle.reader.proofs.Steps.{moves, misplaced, too_deep, too_many, at_end, at_bad, done_depth, want_open, want_close, want_word_lem, inside_depth, under_depth, first_depth, second_depth, first_done, had_two, NoTwo, as_full, full_close, NoClose, full_other}
@@ -37,8 +37,21 @@ read_behind deep l m d xs (Ok u) q e s rd = (
   rd.2,
   rd.3 ∙ s,
 )
-read_behind deep l m d xs (Err f) q e s rd =
-    λ K h. ap (runs (length (text_of l)) (want K) d.words) e ∙ subst (λ t. runs (length t) (want K) d.words xs ≡ refused f) s (rd K h)
+read_behind deep l m d xs (Err f) q e s rd = (
+  (λ K h. ap (runs (length (text_of l)) (want K) d.words) e ∙ subst (λ t. runs (length t) (want K) d.words xs ≡ refused f) s (rd.0 K h)),
+  rd.1 ∙ s,
+)
+
+-- a unit that is read without the lexer
+pub by_draft : (deep : ℕ) (l : Lexer) (d e : Draft) (xs : List Item) (r : Result (Unit {0}) TextFault) → UnitBy (length (text_of l)) deep xs d r (left l) e → ReadUnit deep xs (record { lexer = l; draft = d }) r (record { lexer = l; draft = e })
+by_draft deep l d e xs (Ok u) b = (b.0, b.1, b.2, refl)
+by_draft deep l d e xs (Err f) b = (b, refl)
+
+-- a leaf whose token the lexer has passed already
+pub leaf_behind : (deep : ℕ) (p : Parser) (m : Lexer) (e : Draft) (o : Option Placed) (x : Placed) (w : Word) (r : Result (Unit {0}) TextFault) → Next (left p.lexer) (Ok o) (left m) → o ≡ Some x → x.token ≡ word w → text_of m ≡ text_of p.lexer → ((n k : ℕ) (xs : List Item) → UnitBy n k (token x.place (word w) ∷ xs) p.draft r xs e) → ReadUnit deep (left p.lexer) p r (record { lexer = m; draft = e })
+leaf_behind deep p m e o x w r answer some is same reads =
+    let first : left p.lexer ≡ token x.place (word w) ∷ left m = next_some (left p.lexer) (left m) some answer ∙ ap (λ t. token x.place t ∷ left m) is in
+    read_behind deep p.lexer m p.draft (token x.place (word w) ∷ left m) r (record { lexer = m; draft = e }) first same (by_draft deep m p.draft e _ r (reads (length (text_of m)) deep (left m)))
 
 -- a rule in parentheses
 pub paren_deep : (n p k deep : ℕ) (K : Context unit) (xs : List Item) → depth K + deep ≡ max_depth → deep ≡ 0 → runs n (want K) k (token p Open ∷ xs) ≡ refused (TooDeep p)
@@ -126,7 +139,7 @@ alone_by_word n k t K p w ys e h = as_full n p.place k t K p.token ys (subst NoT
 pub rule_by_next : (deep : ℕ) (xs zs : List Item) (p q : Parser) (t : Tree) (r : Result (Option Placed) TextFault) → ((K : Context rule) → depth K + deep ≡ max_depth → runs (bytes p) (want (first K)) p.draft.words xs ≡ runs (bytes p) (full t K) q.draft.words zs) → Grown p.draft q.draft t → SameText p q → Next zs r (left q.lexer) → ReadRule deep xs p r q
 rule_by_next deep xs zs p q t (Ok None) go g s a = (t, (λ K h. go K h ∙ ap (runs (bytes p) (full t K) q.draft.words) a.0 ∙ at_end (bytes p) q.draft.words (full t K)), g, s)
 rule_by_next deep xs zs p q t (Ok (Some x)) go g s a = (t, (λ K h. go K h ∙ ap (runs (bytes p) (full t K) q.draft.words) a), g, s)
-rule_by_next deep xs zs p q t (Err f) go g s a = λ K h. go K h ∙ ap (runs (bytes p) (full t K) q.draft.words) a.1 ∙ at_bad (bytes p) q.draft.words (full t K) f a.0
+rule_by_next deep xs zs p q t (Err f) go g s a = ((λ K h. go K h ∙ ap (runs (bytes p) (full t K) q.draft.words) a.1 ∙ at_bad (bytes p) q.draft.words (full t K) f a.0), s)
 
 -- how a draft grows
 pub size_some : (t : Tree) → 1 ≤ size t

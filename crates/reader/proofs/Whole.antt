@@ -1,5 +1,5 @@
 -- From the machine's outcome to what reading a text promises.
-use Rattle.std.proofs.Common.{◌≡◌, ℕ, ◌+◌, ◌≤◌, ◌<◌, leb, List, [], ◌++◌, length, drop, Some, None, Ok, Err, Option, sym, refl, ap, ◌∙◌, subst, ap₂, arith}
+use Rattle.std.proofs.Common.{◌≡◌, ℕ, ◌+◌, ◌≤◌, ◌<◌, leb, List, [], ◌++◌, length, drop, Some, None, Ok, Err, Option, Result, sym, refl, ap, ◌∙◌, subst, ap₂, arith}
 use Rattle.std.proofs.lemmas.Bool.{cond-true, cond-false, le-leb, lt-leb}
 use Rattle.fixed_vec.specs.Elements.{elements}
 use Rattle.grammar.specs.Limits.{max_text, max_depth}
@@ -12,7 +12,7 @@ use Rattle.grammar.proofs.Outcome.{accepted_sound, refused_sound, accepted_compl
 use Rattle.lexer.specs.Answers.{left, text_of}
 use Rattle.lexer.specs.declared.Placed.{Placed}
 use Rattle.lexer.specs.declared.lexer.Lexer.{Lexer}
-use Rattle.reader.specs.Reading.{Grown, behind, bytes, ReadRule}
+use Rattle.reader.specs.Reading.{Grown, behind, bytes, ReadRule, ended}
 use Rattle.reader.specs.Promise.{Reading}
 use Rattle.reader.specs.Rules.{Writes}
 use Rattle.reader.specs.declared.draft.Draft.{Draft}
@@ -22,6 +22,9 @@ use Rattle.reader.proofs.Steps.{misplaced, full_whole}
 
 clash : {o : Outcome} {t : Tree} {f : TextFault} → o ≡ accepted t → o ≡ refused f → ⊥
 clash p q = let z : ◌≡◌ {A = ℕ} 0 1 = cc in omega arith
+
+ok_err : {r : Result (Unit {0}) TextFault} {u : Unit {0}} {f : TextFault} → r ≡ Ok u → r ≡ Err f → ⊥
+ok_err p q = let z : ◌≡◌ {A = ℕ} 0 1 = cc in omega arith
 
 pub reading_err : (text : List ℕ) (f : TextFault) → outcome text ≡ refused f → Reading text (Err f)
 reading_err text f e =
@@ -70,6 +73,15 @@ whole_level = refl
 -- behind the whole rule
 rule_behind : (n k : ℕ) (t : Tree) (p : Placed) (ys : List Item) → behind n whole t k (Some p) ys ≡ refused (Misplaced p.place)
 rule_behind n k t p ys = misplaced n p.place k (full t whole) p.token ys (full_whole t p.token)
+
+-- which answer tells what stands there
+pub ended_none : (next : Option Placed) {u : Unit {0}} → ended next ≡ Ok u → next ≡ None
+ended_none None e = refl
+ended_none (Some p) e = absurd (ok_err {f = Misplaced p.place} e refl)
+
+pub ended_some : (next : Option Placed) {f : TextFault} → ended next ≡ Err f → (p : Placed) × (next ≡ Some p) × (Misplaced p.place ≡ f)
+ended_some None e = absurd (ok_err {u = tt} refl e)
+ended_some (Some p) e = (p, refl, (let same : Misplaced p.place ≡ _ = cc in same))
 
 -- a draft that began with nothing
 pub drafted_all : {d e : Draft} {t : Tree} → elements d.nodes ≡ [] → Grown d e t → elements e.nodes ≡ nodes 0 t

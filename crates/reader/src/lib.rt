@@ -19,7 +19,7 @@ use draft::Draft;
 use fixed_vec::FixedVec;
 use grammar::{MAX_DEPTH, MAX_WORDS, Node, TextFault};
 use lexer::Lexer;
-use parser::Parser;
+use parser::{Parser, nothing_behind};
 pub use rule::Rule;
 use words::{Operator, Word};
 
@@ -37,9 +37,10 @@ impl Draft {
     pub(crate) fn new() -> Draft
         ensures value { (elements result.nodes ≡ []) × (result.words ≡ 0) }
     {
+        // A node of zeros alone: a free place holds no word, and zeros are written fastest.
         let blank = Node {
             word: Word {
-                operator: Operator::True,
+                operator: Operator::And,
                 number: 0,
             },
             left: 0,
@@ -81,12 +82,10 @@ pub fn read(text: &[u8]) -> Result<Rule, TextFault>
         lexer: Lexer::new(text)?,
         draft: Draft::new(),
     };
-    match parser.rule(MAX_DEPTH)? {
-        None => Ok(Rule {
-            nodes: parser.draft.nodes,
-        }),
-        Some(next) => Err(TextFault::Misplaced(next.place)),
-    }
+    nothing_behind(parser.rule(MAX_DEPTH)?)?;
+    Ok(Rule {
+        nodes: parser.draft.nodes,
+    })
 }
 
 // What the promise of `read` shuts out: a reader that refuses every text, and one that makes `true` of each.

@@ -2,13 +2,14 @@
 // other. Each is told how many more levels a token may lie deep, and leaves the nodes of what it has read in the draft.
 // Each takes the answer to a token apart where it stands, by `let .. else` or `match`, and leaves with the fault of that place.
 // A level and a place are passed on to be used once, in a function's first line.
-ghost use Rattle.std.specs.Prelude.{◌≡◌, ◌+◌, ◌∷◌, MatchResult};
+ghost use Rattle.std.specs.Prelude.{◌≡◌, ℕ, ◌+◌, List, ◌∷◌, MatchResult};
 ghost use Rattle.words.specs.declared.Operands.TheVariants.{Zero, One};
 ghost use Rattle.grammar.specs.Grammar.{takes};
-ghost use Rattle.grammar.specs.Machine.{token};
+ghost use Rattle.grammar.specs.Machine.{Item, token};
 ghost use Rattle.grammar.specs.declared.Token.TheVariants.{Open, Word as word_token};
 ghost use Rattle.grammar.specs.declared.TextFault.TheVariants.{TooDeep as too_deep};
 ghost use Rattle.lexer.specs.Answers.{left};
+ghost use Rattle.reader.specs.Reading.{UnitBy, ended};
 
 use crate::draft::Draft;
 use grammar::{TextFault, Token};
@@ -22,7 +23,6 @@ pub(crate) struct Parser<'a> {
 }
 
 impl<'a> Parser<'a> {
-    ghost use Rattle.std.specs.Prelude.{ℕ};
     ghost use Rattle.reader.specs.Reading.{ReadUnit, ReadRule};
 
     // A rule: a unit, or two units and a two-sided word between them. It has read the token behind the rule, too, and
@@ -51,6 +51,7 @@ impl<'a> Parser<'a> {
 
     // A unit: a rule in parentheses, a one-sided word and a unit, or a leaf.
     #[cycle(in_parentheses_one_sided_rule_unit)]
+    #[tactic(auto, using(crate::proofs::Ways::leaf_behind))]
     pub(crate) fn unit(&mut self, deep: usize) -> Result<(), TextFault>
         ensures read { ReadUnit deep (left self.old.lexer) self.old result self.new }
     {
@@ -61,21 +62,11 @@ impl<'a> Parser<'a> {
             Token::Open => self.in_parentheses(deep, place),
             Token::Close => Err(TextFault::Misplaced(place)),
             Token::Word(word) => match operands_of(word.operator) {
-                Operands::Zero => self.leaf(word, place),
+                Operands::Zero => self.draft.leaf(word, place),
                 Operands::One => self.one_sided(deep, word, place),
                 Operands::Two => Err(TextFault::Misplaced(place)),
             },
         }
-    }
-
-    // A leaf, at `place`.
-    fn leaf(&mut self, word: Word, place: usize) -> Result<(), TextFault>
-        requires { takes word ≡ Zero }
-        ensures read { (deep : ℕ) → ReadUnit deep (token place (word_token word) ∷ left self.old.lexer) self.old result self.new }
-    {
-        self.draft.count(place)?;
-        self.draft.push(word, 0);
-        Ok(())
     }
 
     // The unit of a one-sided word, which stands at `place`.
@@ -107,9 +98,31 @@ impl<'a> Parser<'a> {
     }
 }
 
+impl Draft {
+    // A leaf, at `place`.
+    fn leaf(&mut self, word: Word, place: usize) -> Result<(), TextFault>
+        requires { takes word ≡ Zero }
+        ensures read { (n deep : ℕ) (xs : List Item) → UnitBy n deep (token place (word_token word) ∷ xs) self.old result xs self.new }
+    {
+        self.count(place)?;
+        self.push(word, 0);
+        Ok(())
+    }
+}
+
 // The levels that are left behind a token at `place` that opens one more.
 fn deeper(deep: usize, place: usize) -> Result<usize, TextFault>
     ensures level { MatchResult result (λ below. below + 1 ≡ deep) (λ f. (f ≡ too_deep place) × (deep ≡ 0)) }
 {
     deep.checked_sub(1).ok_or(TextFault::TooDeep(place))
+}
+
+// The end of the text behind a whole rule: anything else cannot stand there.
+pub(crate) fn nothing_behind(next: Option<Placed>) -> Result<(), TextFault>
+    ensures value { result ≡ ended next }
+{
+    match next {
+        None => Ok(()),
+        Some(next) => Err(TextFault::Misplaced(next.place)),
+    }
 }

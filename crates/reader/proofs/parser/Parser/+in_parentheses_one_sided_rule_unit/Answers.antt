@@ -1,5 +1,5 @@
 -- Each way through the functions, by what it comes to.
-use Rattle.std.proofs.Common.{◌≡◌, ◌-◌, ◌∷◌, length, sym, ap, ◌∙◌, ap₂, arith}
+use Rattle.std.proofs.Common.{◌≡◌, ◌-◌, ◌∷◌, length, sym, refl, ap, ◌∙◌, ap₂, arith}
 use Rattle.std.proofs.lemmas.Result.{err_from_is_err_and}
 use Rattle.grammar.specs.Grammar.{Tree, one, two, takes}
 use Rattle.grammar.specs.Machine.{token, inside, first, second, under, want, had, refused, runs, unit_done}
@@ -8,7 +8,7 @@ use Rattle.grammar.specs.declared.TextFault.TheVariants.{EndsEarly}
 use Rattle.lexer.specs.Answers.{left, text_of}
 use Rattle.reader.specs.Reading.{behind}
 use Rattle.reader.proofs.Steps.{at_end, at_bad, first_depth, second_depth, second_done, under_done}
-use Rattle.reader.proofs.Ways.{next_none, next_some, read_behind, had_run, want_second, paren_deep, paren_in, inside_level, close_missing, close_found, one_deep, one_many, one_in, under_level, two_wanted, close_wanted, two_many, alone_by_token, alone_by_word, rule_by_next, size_some, Pushed, Counted, grown_one, grown_two}
+use Rattle.reader.proofs.Ways.{next_none, next_some, had_run, want_second, paren_deep, paren_in, inside_level, close_missing, close_found, one_deep, one_many, one_in, under_level, two_wanted, close_wanted, two_many, alone_by_token, alone_by_word, rule_by_next, size_some, Pushed, Counted, grown_one, grown_two}
 use Rattle.reader.proofs.parser.Parser.+in_parentheses_one_sided_rule_unit.Goals as goal
 
 pub in_parentheses-returns-in_err-below : goal.in_parentheses-returns-in_err-below
@@ -17,7 +17,7 @@ in_parentheses-returns-in_err-below t c =
       read =
           let p = err_from_is_err_and c.from_residual.result c.from_residual.ensures.1 in
           let none = c.in_err-below.ensures.level in
-          rw (p.1, p.2, none.0) (λ K h. paren_deep _ _ _ c.args.deep K _ h none.1);
+          rw (p.1, p.2, none.0) ((λ K h. paren_deep _ _ _ c.args.deep K _ h none.1), refl);
     }
 
 pub in_parentheses-returns-in_err-next : goal.in_parentheses-returns-in_err-next
@@ -25,31 +25,35 @@ in_parentheses-returns-in_err-next t c =
     record {
       read =
           let p = err_from_is_err_and c.from_residual-in_err-next.result c.from_residual-in_err-next.ensures.1 in
-          rw (p.1, p.2) (λ K h. paren_in _ _ _ c.args.deep c.in_ok-below.below K _ h c.in_ok-below.ensures.level c.args.self.now.draft.few ∙ c.in_err-next.ensures.read (inside K) (inside_level c.args.deep c.in_ok-below.below K h c.in_ok-below.ensures.level));
+          rw (p.1, p.2) ((λ K h. paren_in _ _ _ c.args.deep c.in_ok-below.below K _ h c.in_ok-below.ensures.level c.args.self.now.draft.few ∙ c.in_err-next.ensures.read.0 (inside K) (inside_level c.args.deep c.in_ok-below.below K h c.in_ok-below.ensures.level)), c.in_err-next.ensures.read.1);
     }
 
 pub in_parentheses-returns-in_default : goal.in_parentheses-returns-in_default
 in_parentheses-returns-in_default t c =
     let rd = c.in_ok-next.ensures.read in
     record {
-      read =
-          λ K h.
-          paren_in _ _ _ c.args.deep c.in_ok-below.below K _ h c.in_ok-below.ensures.level c.args.self.now.draft.few
-          ∙ rd.1 (inside K) (inside_level c.args.deep c.in_ok-below.below K h c.in_ok-below.ensures.level)
-          ∙ ap (λ o. behind (length (text_of c.args.self.now.lexer)) (inside K) rd.0 c.rule.new.self.draft.words o (left c.rule.new.self.lexer)) c.in_default.is
-          ∙ ap (λ n. refused (EndsEarly n)) (sym (c.text_len.ensures.value ∙ ap length rd.3));
+      read = (
+        (λ K h.
+            paren_in _ _ _ c.args.deep c.in_ok-below.below K _ h c.in_ok-below.ensures.level c.args.self.now.draft.few
+            ∙ rd.1 (inside K) (inside_level c.args.deep c.in_ok-below.below K h c.in_ok-below.ensures.level)
+            ∙ ap (λ o. behind (length (text_of c.args.self.now.lexer)) (inside K) rd.0 c.rule.new.self.draft.words o (left c.rule.new.self.lexer)) c.in_default.is
+            ∙ ap (λ n. refused (EndsEarly n)) (sym (c.text_len.ensures.value ∙ ap length rd.3))),
+        rd.3,
+      );
     }
 
 pub in_parentheses-returns-in_default-token : goal.in_parentheses-returns-in_default-token
 in_parentheses-returns-in_default-token t c =
     let rd = c.in_ok-next.ensures.read in
     record {
-      read =
-          λ K h.
-          paren_in _ _ _ c.args.deep c.in_ok-below.below K _ h c.in_ok-below.ensures.level c.args.self.now.draft.few
-          ∙ rd.1 (inside K) (inside_level c.args.deep c.in_ok-below.below K h c.in_ok-below.ensures.level)
-          ∙ ap (λ o. behind (length (text_of c.args.self.now.lexer)) (inside K) rd.0 c.rule.new.self.draft.words o (left c.rule.new.self.lexer)) c.in-Some.is
-          ∙ close_missing _ _ rd.0 K c.in-Some.next _ c.in_default-token.not-Close;
+      read = (
+        (λ K h.
+            paren_in _ _ _ c.args.deep c.in_ok-below.below K _ h c.in_ok-below.ensures.level c.args.self.now.draft.few
+            ∙ rd.1 (inside K) (inside_level c.args.deep c.in_ok-below.below K h c.in_ok-below.ensures.level)
+            ∙ ap (λ o. behind (length (text_of c.args.self.now.lexer)) (inside K) rd.0 c.rule.new.self.draft.words o (left c.rule.new.self.lexer)) c.in-Some.is
+            ∙ close_missing _ _ rd.0 K c.in-Some.next _ c.in_default-token.not-Close),
+        rd.3,
+      );
     }
 
 pub in_parentheses-returns : goal.in_parentheses-returns
@@ -74,7 +78,7 @@ one_sided-returns-in_err-below t c =
       read =
           let p = err_from_is_err_and c.from_residual.result c.from_residual.ensures.1 in
           let none = c.in_err-below.ensures.level in
-          rw (p.1, p.2, none.0) (λ K h. one_deep _ _ _ c.args.deep K c.args.word _ c.requires h none.1);
+          rw (p.1, p.2, none.0) ((λ K h. one_deep _ _ _ c.args.deep K c.args.word _ c.requires h none.1), refl);
     }
 
 pub one_sided-returns-in_err-count : goal.one_sided-returns-in_err-count
@@ -83,7 +87,7 @@ one_sided-returns-in_err-count t c =
       read =
           let p = err_from_is_err_and c.from_residual-in_err-count.result c.from_residual-in_err-count.ensures.1 in
           let many = c.in_err-count.ensures.counted in
-          rw (p.1, p.2, many.0) (λ K h. one_many _ _ _ c.args.deep c.in_ok-below.below K c.args.word _ c.requires h c.in_ok-below.ensures.level many.1);
+          rw (p.1, p.2, many.0) ((λ K h. one_many _ _ _ c.args.deep c.in_ok-below.below K c.args.word _ c.requires h c.in_ok-below.ensures.level many.1), refl);
     }
 
 pub one_sided-returns-in_err-unit : goal.one_sided-returns-in_err-unit
@@ -92,11 +96,13 @@ one_sided-returns-in_err-unit t c =
     record {
       read =
           let p = err_from_is_err_and c.from_residual-in_err-unit.result c.from_residual-in_err-unit.ensures.1 in
-          rw (p.1, p.2)
-          (λ K h.
-          one_in _ _ _ c.args.deep c.in_ok-below.below K c.args.word _ c.requires h c.in_ok-below.ensures.level (omega (arith, more.counted, c.count.new.self.few))
-          ∙ ap (λ k. runs (length (text_of c.args.self.now.lexer)) (want (under c.args.word K)) k (left c.args.self.now.lexer)) (sym more.counted)
-          ∙ c.in_err-unit.ensures.read (under c.args.word K) (under_level c.args.deep c.in_ok-below.below c.args.word K h c.in_ok-below.ensures.level));
+          rw (p.1, p.2) (
+            (λ K h.
+                one_in _ _ _ c.args.deep c.in_ok-below.below K c.args.word _ c.requires h c.in_ok-below.ensures.level (omega (arith, more.counted, c.count.new.self.few))
+                ∙ ap (λ k. runs (length (text_of c.args.self.now.lexer)) (want (under c.args.word K)) k (left c.args.self.now.lexer)) (sym more.counted)
+                ∙ c.in_err-unit.ensures.read.0 (under c.args.word K) (under_level c.args.deep c.in_ok-below.below c.args.word K h c.in_ok-below.ensures.level)),
+            c.in_err-unit.ensures.read.1,
+          );
     }
 
 pub one_sided-returns : goal.one_sided-returns
@@ -124,7 +130,7 @@ rule-returns-in_err-unit t c =
     record {
       read =
           let p = err_from_is_err_and c.from_residual.result c.from_residual.ensures.1 in
-          rw (p.1, p.2) (λ K h. c.in_err-unit.ensures.read (first K) (omega (arith, first_depth K)));
+          rw (p.1, p.2) ((λ K h. c.in_err-unit.ensures.read.0 (first K) (omega (arith, first_depth K))), c.in_err-unit.ensures.read.1);
     }
 
 pub rule-overflow_sub-operand : goal.rule-overflow_sub-operand
@@ -140,7 +146,7 @@ rule-returns-in_err-next t c =
     record {
       read =
           let p = err_from_is_err_and c.from_residual-in_err-next.result c.from_residual-in_err-next.ensures.1 in
-          rw (p.1, p.2) (λ K h. first_unit K h ∙ at_bad _ _ (had rd.0 K) _ a.0);
+          rw (p.1, p.2) ((λ K h. first_unit K h ∙ at_bad _ _ (had rd.0 K) _ a.0), c.next.ensures.same_text ∙ rd.3);
     }
 
 pub rule-returns-in_default : goal.rule-returns-in_default
@@ -172,7 +178,7 @@ rule-returns-in_err-count t c =
     record {
       read =
           let p = err_from_is_err_and c.from_residual-in_err-count.result c.from_residual-in_err-count.ensures.1 in
-          rw (p.1, p.2, many.0) (λ K h. first_unit K h ∙ two_many _ _ _ rd.0 K c.in-Word.word _ two_sided (omega arith) many.1);
+          rw (p.1, p.2, many.0) ((λ K h. first_unit K h ∙ two_many _ _ _ rd.0 K c.in-Word.word _ two_sided (omega arith) many.1), c.next.ensures.same_text ∙ rd.3);
     }
 
 pub rule-returns-in_err-unit-2 : goal.rule-returns-in_err-unit-2
@@ -185,7 +191,7 @@ rule-returns-in_err-unit-2 t c =
     record {
       read =
           let p = err_from_is_err_and c.from_residual-in_err-unit-2.result c.from_residual-in_err-unit-2.ensures.1 in
-          rw (p.1, p.2) (λ K h. second_unit K h ∙ c.in_err-unit-2.ensures.read (second c.in-Word.word rd.0 K) (omega (arith, second_depth c.in-Word.word rd.0 K)));
+          rw (p.1, p.2) ((λ K h. second_unit K h ∙ c.in_err-unit-2.ensures.read.0 (second c.in-Word.word rd.0 K) (omega (arith, second_depth c.in-Word.word rd.0 K))), c.in_err-unit-2.ensures.read.1 ∙ c.next.ensures.same_text ∙ rd.3);
     }
 
 pub rule-returns : goal.rule-returns
@@ -217,44 +223,41 @@ unit-returns-in_err-place t c =
       read =
           let p = err_from_is_err_and c.from_residual.result c.from_residual.ensures.1 in
           let a = c.in_err-place.ensures.answer in
-          rw (p.1, p.2) (λ K h. ap (runs _ (want K) _) a.1 ∙ at_bad _ _ (want K) _ a.0);
+          rw (p.1, p.2) ((λ K h. ap (runs _ (want K) _) a.1 ∙ at_bad _ _ (want K) _ a.0), c.next.ensures.same_text);
     }
 
 pub unit-returns-in_default : goal.unit-returns-in_default
 unit-returns-in_default t c =
     record {
-      read =
-          λ K h.
-          ap (runs (length (text_of c.args.self.now.lexer)) (want K) c.args.self.now.draft.words) (next_none (left c.args.self.now.lexer) (left c.next.new.self) c.in_default.is c.in_ok-place.ensures.answer)
-          ∙ at_end _ _ (want K)
-          ∙ ap (λ n. refused (EndsEarly n)) (sym (c.text_len.ensures.value ∙ ap length c.next.ensures.same_text));
+      read = (
+        (λ K h.
+            ap (runs (length (text_of c.args.self.now.lexer)) (want K) c.args.self.now.draft.words) (next_none (left c.args.self.now.lexer) (left c.next.new.self) c.in_default.is c.in_ok-place.ensures.answer)
+            ∙ at_end _ _ (want K)
+            ∙ ap (λ n. refused (EndsEarly n)) (sym (c.text_len.ensures.value ∙ ap length c.next.ensures.same_text))),
+        c.next.ensures.same_text,
+      );
     }
 
 pub unit-returns-in-Close : goal.unit-returns-in-Close
 unit-returns-in-Close t c =
     record {
-      read =
-          λ K h.
-          ap (runs (length (text_of c.args.self.now.lexer)) (want K) c.args.self.now.draft.words) (next_some (left c.args.self.now.lexer) (left c.next.new.self) c.in-Some.is c.in_ok-place.ensures.answer)
-          ∙ ap (λ x. runs (length (text_of c.args.self.now.lexer)) (want K) c.args.self.now.draft.words (token c.in-Some.field-0.place x ∷ left c.next.new.self)) c.in-Close.is
-          ∙ close_wanted _ _ _ K _;
+      read = (
+        (λ K h.
+            ap (runs (length (text_of c.args.self.now.lexer)) (want K) c.args.self.now.draft.words) (next_some (left c.args.self.now.lexer) (left c.next.new.self) c.in-Some.is c.in_ok-place.ensures.answer)
+            ∙ ap (λ x. runs (length (text_of c.args.self.now.lexer)) (want K) c.args.self.now.draft.words (token c.in-Some.field-0.place x ∷ left c.next.new.self)) c.in-Close.is
+            ∙ close_wanted _ _ _ K _),
+        c.next.ensures.same_text,
+      );
     }
 
 pub unit-returns-in-Two : goal.unit-returns-in-Two
 unit-returns-in-Two t c =
     record {
-      read =
-          λ K h.
-          ap (runs (length (text_of c.args.self.now.lexer)) (want K) c.args.self.now.draft.words) (next_some (left c.args.self.now.lexer) (left c.next.new.self) c.in-Some.is c.in_ok-place.ensures.answer)
-          ∙ ap (λ x. runs (length (text_of c.args.self.now.lexer)) (want K) c.args.self.now.draft.words (token c.in-Some.field-0.place x ∷ left c.next.new.self)) c.in-Word.is
-          ∙ two_wanted _ _ _ K c.in-Word.word _ (sym c.operands_of.ensures.value ∙ c.in-Two.is);
-    }
-
-pub unit-returns-in-Zero : goal.unit-returns-in-Zero
-unit-returns-in-Zero t c =
-    record {
-      read =
-          read_behind c.args.deep c.args.self.now.lexer c.next.new.self c.args.self.now.draft _ c.leaf.result _
-          (next_some (left c.args.self.now.lexer) (left c.next.new.self) c.in-Some.is c.in_ok-place.ensures.answer ∙ ap (λ x. token c.in-Some.field-0.place x ∷ left c.next.new.self) c.in-Word.is)
-          c.next.ensures.same_text (c.leaf.ensures.read c.args.deep);
+      read = (
+        (λ K h.
+            ap (runs (length (text_of c.args.self.now.lexer)) (want K) c.args.self.now.draft.words) (next_some (left c.args.self.now.lexer) (left c.next.new.self) c.in-Some.is c.in_ok-place.ensures.answer)
+            ∙ ap (λ x. runs (length (text_of c.args.self.now.lexer)) (want K) c.args.self.now.draft.words (token c.in-Some.field-0.place x ∷ left c.next.new.self)) c.in-Word.is
+            ∙ two_wanted _ _ _ K c.in-Word.word _ (sym c.operands_of.ensures.value ∙ c.in-Two.is)),
+        c.next.ensures.same_text,
+      );
     }
