@@ -1,6 +1,7 @@
--- The layout of the tree of the rule's nodes fits the line.
-use Rattle.std.proofs.Common.{arith}
-use Rattle.writer.proofs.Laid.{layout_short}
+-- The rule's nodes have one tree, whose layout fits the line and reads back.
+use Rattle.std.proofs.Common.{sym, ◌∙◌, arith}
+use Rattle.reader.proofs.Trees.{some_tree}
+use Rattle.writer.proofs.Laid.{layout_short, layout_accepted, same_tree}
 use Rattle.writer.proofs.Draft.{some_node, in_order, last_tops, whole_text}
 use Rattle.writer.proofs.text_of.Goals as goal
 
@@ -24,3 +25,12 @@ returns-clause-text c =
 
 pub returns-clause-short : goal.returns-clause-short
 returns-clause-short c = λ t x. layout_short x.text t x.accepted
+
+pub returns-clause-some_tree : goal.returns-clause-some_tree
+returns-clause-some_tree c = some_tree c.args.rule.now
+
+pub returns-clause-one_tree : goal.returns-clause-one_tree
+returns-clause-one_tree c = λ t u x y. same_tree x.text y.text t u x.accepted y.accepted (sym x.nodes ∙ y.nodes)
+
+pub returns-clause-reads_back : goal.returns-clause-reads_back
+returns-clause-reads_back c = λ t x. layout_accepted x.text t x.accepted
