@@ -1,7 +1,7 @@
 // The lines that the program prints.
 #![tactic(auto)]
 
-ghost use Rattle.std.specs.Prelude.{◌≡◌, ℕ, ◌≤◌, List, length, ◌==◌, position, MatchResult};
+ghost use Rattle.std.specs.Prelude.{◌≡◌, ℕ, ◌≤◌, List, [], ◌∷◌, ◌++◌, length, ◌==◌, position, MatchResult};
 ghost use Rattle.grammar.specs.Grammar.{Tree};
 ghost use Rattle.grammar.specs.Layout.{layout};
 ghost use Rattle.reader.specs.Rules.{TreeOf};
@@ -37,6 +37,10 @@ impl From<InputFault> for Refusal {
 // The longest line that answers an input, its byte 10 included.
 pub const MAX_LINE: usize = 542;
 
+// Room for the line of any refusal: two numbers of at most five and twenty digits, and three bytes more. A line of `MAX_LINE` bytes would
+// be passed on from piece to piece.
+const MAX_REFUSAL: usize = 64;
+
 // Writes a refusal's line.
 pub fn refusal_line(refusal: Refusal, out: &mut [u8]) -> Result<usize, WriteFault>
     ensures written { Written out.old out.new (refusal_line refusal.number refusal.place) result }
@@ -45,7 +49,7 @@ pub fn refusal_line(refusal: Refusal, out: &mut [u8]) -> Result<usize, WriteFaul
     let number = Decimal::new(u64::from(refusal.number));
     // No `From` leads from a `usize` to a `u64`.
     let place = Decimal::new(refusal.place as u64);
-    let line = Line::<MAX_LINE>::new()
+    let line = Line::<MAX_REFUSAL>::new()
         .add(b"!")
         .add(number.bytes())
         .add(b" ")
@@ -54,15 +58,26 @@ pub fn refusal_line(refusal: Refusal, out: &mut [u8]) -> Result<usize, WriteFaul
     write(out, line.bytes())
 }
 
+// Writes a text and the byte 10 behind it, or refuses and writes nothing.
+fn write_line(out: &mut [u8], text: &[u8]) -> Result<usize, WriteFault>
+    ensures written { Written out.old out.new (text.now ++ 10 ∷ []) result }
+{
+    let end = text.len();
+    if out.len() <= end {
+        return Err(WriteFault::TooShort(end + 1));
+    }
+    out[..end].copy_from_slice(text);
+    out[end] = b'\n';
+    Ok(end + 1)
+}
+
 // Writes a rule's line: its text as laid out.
 pub fn rule_line(rule: &Rule, out: &mut [u8]) -> Result<usize, WriteFault>
     ensures some_tree { ∥ ((t : Tree) × TreeOf rule.now t) ∥₁ }
     ensures written { (t : Tree) → TreeOf rule.now t → Written out.old out.new (rule_line (layout t)) result }
     ensures short { (t : Tree) → TreeOf rule.now t → length (rule_line (layout t)) ≤ max_line }
 {
-    let text = writer::text_of(rule);
-    let line = Line::<MAX_LINE>::new().add(text.bytes()).add(b"\n");
-    write(out, line.bytes())
+    write_line(out, writer::text_of(rule).bytes())
 }
 
 // The place of the first byte 10.
