@@ -2,7 +2,7 @@
 // held to the file `stdout`.
 #![tactic(auto)]
 
-use listing::{MAX_INPUT, MAX_LINE, answer, first_line, refusal_line};
+use listing::{MAX_INPUT, MAX_LINE, answer, refusal_line};
 use refusal::Refusal;
 use std::io;
 use std::io::{Read, Write};
@@ -30,7 +30,7 @@ fn show_refusal(rt: &HostRuntime, refusal: Refusal) -> io::Result<()> {
 // Answers each line of the input, without its byte 10.
 fn show_lines(rt: &HostRuntime, input: &[u8]) -> io::Result<()> {
     for line in input.split_inclusive(|b| *b == b'\n') {
-        show(rt, first_line(line))?;
+        show(rt, line.strip_suffix(b"\n").unwrap_or(line))?;
     }
     Ok(())
 }
