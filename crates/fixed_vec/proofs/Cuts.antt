@@ -1,8 +1,8 @@
 -- Lists that are cut at a length.
-use Rattle.std.proofs.Common.{◌≡◌, ℕ, ◌+◌, ◌-◌, ◌≤◌, min, List, ◌++◌, length, take, drop, sym, ap, ◌∙◌, inl, inr, arith, length-append, take_all, take-take, take_at}
+use Rattle.std.proofs.Common.{◌≡◌, ℕ, ◌+◌, ◌-◌, ◌≤◌, min, List, ◌++◌, length, take, drop, sym, refl, ap, ◌∙◌, inl, inr, append_assoc, arith, length-append, length-drop, length-take as count_taken, take_all, take-take, take_at}
 use borrow.Rule.Slice.PartMut.{put_mid}
-use lib.Seq.{take-append-add}
-use Rattle.std.proofs.lemmas.List.{length-take, length-take-le}
+use lib.Seq.{take-append-add, take-append-le, drop-append-add}
+use Rattle.std.proofs.lemmas.List.{length-take, length-take-le, drop-drop}
 use Rattle.std.proofs.lemmas.Slice.{put_mid-paste}
 use Rattle.std.proofs.lemmas.Bool.{cases_lt}
 use Rattle.fixed_vec.specs.Elements.{joined}
@@ -48,3 +48,34 @@ take_put buffer next piece at r e f = rw f (take_at (joined buffer at piece) (dr
 pub length_joined_le : {T : Type 0} → (buffer piece : List T) (at : ℕ) → length (joined buffer at piece) ≤ length buffer
 unfolding joined
 length_joined_le buffer piece at = rw length-take (omega arith)
+
+-- a list that is cut, gets more behind it and is cut again
+cut_more : {T : Type 0} → (n : ℕ) (xs ys : List T) → take n (take n xs ++ ys) ≡ take n (xs ++ ys)
+cut_more n xs ys = elim (cases_lt (length xs) n) [
+  | inl h ↦ ap (λ zs. take n (zs ++ ys)) (take_all n xs (omega arith))
+  | inr h ↦
+      let long : length (take n xs) ≡ n = length-take-le n xs h in
+      take_at (take n xs) ys n long ∙ sym (take-append-le n xs ys h)
+]
+
+-- what is left of the buffer behind the first piece
+pub drop_behind : {T : Type 0} → (xs ys : List T) (s : ℕ) → length xs ≤ s → drop s (xs ++ drop (length xs) ys) ≡ drop s ys
+drop_behind xs ys s h =
+    let e : length xs + (s - length xs) ≡ s = omega arith in
+    ap (λ k. drop k (xs ++ drop (length xs) ys)) (sym e) ∙ drop-append-add xs (drop (length xs) ys) (s - length xs) ∙ drop-drop (s - length xs) (length xs) ys ∙ ap (λ k. drop k ys) e
+
+-- one piece put behind another is both, put together
+pub joined_more : {T : Type 0} → (old a b : List T) (at : ℕ) → joined (joined old at a ++ drop (length (joined old at a)) old) (length (joined old at a)) b ≡ joined old at (a ++ b)
+unfolding joined
+joined_more old a b at =
+    let n = length old in
+    let front = take n (take at old ++ a) in
+    let r = length front in
+    let short : r ≤ n = simp count_taken (omega arith) in
+    let long : length (front ++ drop r old) ≡ n = simp (length-append, length-drop) (omega arith) in
+    let cut : take r (front ++ drop r old) ≡ front = take_at front (drop r old) r refl in
+    ap (λ k. take k (take r (front ++ drop r old) ++ b)) long ∙ ap (λ zs. take n (zs ++ b)) cut ∙ cut_more n (take at old ++ a) b ∙ ap (take n) (append_assoc (take at old) a b)
+
+pub longer : {T : Type 0} → (old a b : List T) (at : ℕ) → length (joined old at a) ≤ length (joined old at (a ++ b))
+unfolding joined
+longer old a b at = simp (count_taken, length-append) (omega arith)

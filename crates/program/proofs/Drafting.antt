@@ -33,12 +33,12 @@ one_cell (plain n) k = omega arith
 one_cell (routine n) k = omega arith
 
 -- how many cells there are does not depend on what they keep
-plain_many : {X Y : Type 0} (c : Cell) (x : X) (y : Y) → length (if_plain c x) ≡ length (if_plain c y)
+pub plain_many : {X Y : Type 0} (c : Cell) (x : X) (y : Y) → length (if_plain c x) ≡ length (if_plain c y)
 plain_many none x y = refl
 plain_many (plain n) x y = refl
 plain_many (routine n) x y = refl
 
-routine_many : {X Y : Type 0} (c : Cell) (x : X) (y : Y) → length (if_routine c x) ≡ length (if_routine c y)
+pub routine_many : {X Y : Type 0} (c : Cell) (x : X) (y : Y) → length (if_routine c x) ≡ length (if_routine c y)
 routine_many none x y = refl
 routine_many (plain n) x y = refl
 routine_many (routine n) x y = refl

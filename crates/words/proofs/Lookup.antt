@@ -1,5 +1,5 @@
 -- The search of the table finds a word just where the bytes are that word's, so no bytes name two words.
-use Rattle.std.proofs.Common.{◌≡◌, ℕ, zero, suc, ◌^◌, ◌<◌, ◌≤◌, Bool, true, false, cond, ◌&&◌, eqb, leb, List, [], ◌∷◌, ◌++◌, map, length, get_or, Some, None, decimal, Option, sym, refl, ap, ◌∙◌, subst, arith, lit<, MatchOption}
+use Rattle.std.proofs.Common.{◌≡◌, ℕ, zero, suc, ◌^◌, ◌<◌, ◌≤◌, Bool, true, false, cond, is_some, ◌&&◌, eqb, leb, List, [], ◌∷◌, ◌++◌, map, length, get_or, Some, None, decimal, Option, sym, refl, ap, ◌∙◌, subst, arith, lit<, MatchOption}
 use Rattle.std.specs.Str.Parse.{digits_value}
 use Rattle.std.specs.Char.{is_ascii_digit}
 use Rattle.std.specs.Str.{all_ascii_digits}
@@ -7,7 +7,8 @@ use Rattle.std.proofs.lemmas.Fmt.{decimal-digits_value, digits_value-decimal, di
 use Rattle.std.proofs.lemmas.Bool.{leb-true, le-leb, eqb-true, eq-eqb, ne_eqb, and_parts, and_from, false≢true, both_ways, not-true, not_from_false}
 use Rattle.words.proofs.Spelling.{own, Bounded, bounded}
 use Rattle.words.specs.Words.{Numbering, bare, within, text, numbering, suffix, Allowed, Names}
-use Rattle.words.specs.Lookup.{starts_number, is_numeral, numbered, behind, Line, line, fit, or_else, seek, operators, lookup}
+use Rattle.words.specs.Lookup.{starts_number, is_numeral, numbered, numbering_of, behind, Line, line, fit, or_else, seek, operators, lookup}
+use Rattle.words.specs.declared.Numbers.{Numbers}
 use Rattle.words.specs.declared.Word.{Word}
 use Rattle.words.specs.declared.Operator.{Operator}
 use Rattle.words.specs.declared.Operator.TheVariants.{And, Or, Implies, Since, Rsince, Not, Before, Rbefore, Once, Ronce, Always, Ralways, Rise, Fall, True, False, Step, Call, Begin, End, Return, Predicate, Routine}
@@ -138,3 +139,11 @@ one_name bs v w g h = let f = names_lookup bs v g in let k = names_lookup bs w h
 pub lookup_cases : (bs : List ℕ) (r : Option Word) → r ≡ lookup bs → MatchOption r ((w : Word) → Names bs w → ⊥) (λ w. Names bs w)
 lookup_cases bs None e = λ w h. let f = names_lookup bs w h in let z : ◌≡◌ {A = ℕ} 0 1 = cc in omega arith
 lookup_cases bs (Some w) e = lookup_names bs w (sym e)
+
+-- whether a number follows a word so numbered: just where its row has numbers
+abbrev pub follows : Numbering → Bool
+follows k = elim k [ bare ↦ false | within low high ↦ true ]
+
+pub some_follows : (ns : Option Numbers) → is_some ns ≡ follows (numbering_of ns)
+some_follows None = refl
+some_follows (Some ns) = refl
