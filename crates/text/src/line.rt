@@ -50,8 +50,12 @@ impl<const N: usize> Line<N> {
     pub fn add(self, piece: &[u8]) -> Line<N>
         ensures value { result ≡ take N (self.entry ++ piece.now) }
     {
-        let mut longer = self;
-        longer.append(piece);
-        longer
+        let Line {
+            bytes: FixedVec { mut items, len },
+        } = self;
+        let end = fixed_vec::put(&mut items, len, piece);
+        Line {
+            bytes: FixedVec { items, len: end },
+        }
     }
 }
