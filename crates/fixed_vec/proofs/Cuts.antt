@@ -1,5 +1,5 @@
 -- Lists that are cut at a length.
-use Rattle.std.proofs.Common.{◌≡◌, ℕ, ◌+◌, ◌-◌, ◌≤◌, min, List, ◌++◌, length, take, drop, sym, refl, ap, ◌∙◌, inl, inr, append_assoc, arith, length-append, length-drop, length-take as count_taken, take_all, take-take, take_at}
+use Rattle.std.proofs.Common.{◌≡◌, ℕ, ◌+◌, ◌-◌, ◌≤◌, min, List, ◌++◌, length, take, drop, sym, refl, ap, ◌∙◌, inl, inr, append_assoc, arith, length-append, length-drop, take_all, take-take, take_at}
 use borrow.Rule.Slice.PartMut.{put_mid}
 use lib.Seq.{take-append-add, take-append-le, drop-append-add}
 use Rattle.std.proofs.lemmas.List.{length-take, length-take-le, drop-drop}
@@ -49,9 +49,9 @@ pub length_joined_le : {T : Type 0} → (buffer piece : List T) (at : ℕ) → l
 unfolding joined
 length_joined_le buffer piece at = rw length-take (omega arith)
 
--- a list that is cut, gets more behind it and is cut again
-cut_more : {T : Type 0} → (n : ℕ) (xs ys : List T) → take n (take n xs ++ ys) ≡ take n (xs ++ ys)
-cut_more n xs ys = elim (cases_lt (length xs) n) [
+-- pieces that are cut on the way are what the whole is, cut once
+pub cut_cut : {T : Type 0} → (n : ℕ) (xs ys : List T) → take n (take n xs ++ ys) ≡ take n (xs ++ ys)
+cut_cut n xs ys = elim (cases_lt (length xs) n) [
   | inl h ↦ ap (λ zs. take n (zs ++ ys)) (take_all n xs (omega arith))
   | inr h ↦
       let long : length (take n xs) ≡ n = length-take-le n xs h in
@@ -71,11 +71,11 @@ joined_more old a b at =
     let n = length old in
     let front = take n (take at old ++ a) in
     let r = length front in
-    let short : r ≤ n = simp count_taken (omega arith) in
+    let short : r ≤ n = simp length-take (omega arith) in
     let long : length (front ++ drop r old) ≡ n = simp (length-append, length-drop) (omega arith) in
     let cut : take r (front ++ drop r old) ≡ front = take_at front (drop r old) r refl in
-    ap (λ k. take k (take r (front ++ drop r old) ++ b)) long ∙ ap (λ zs. take n (zs ++ b)) cut ∙ cut_more n (take at old ++ a) b ∙ ap (take n) (append_assoc (take at old) a b)
+    ap (λ k. take k (take r (front ++ drop r old) ++ b)) long ∙ ap (λ zs. take n (zs ++ b)) cut ∙ cut_cut n (take at old ++ a) b ∙ ap (take n) (append_assoc (take at old) a b)
 
 pub longer : {T : Type 0} → (old a b : List T) (at : ℕ) → length (joined old at a) ≤ length (joined old at (a ++ b))
 unfolding joined
-longer old a b at = simp (count_taken, length-append) (omega arith)
+longer old a b at = simp (length-take, length-append) (omega arith)

@@ -50,6 +50,7 @@ impl<const N: usize> Line<N> {
     pub fn add(self, piece: &[u8]) -> Line<N>
         ensures value { result ≡ take N (self.entry ++ piece.now) }
     {
+        // Taken apart: a line that is lent to `append` and handed on is copied once more.
         let Line {
             bytes: FixedVec { mut items, len },
         } = self;

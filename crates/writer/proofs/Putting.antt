@@ -1,6 +1,6 @@
 -- Pieces that are put behind one another are put as one.
 use Rattle.std.proofs.Common.{◌≡◌, ℕ, List, ◌++◌, take, ap, ◌∙◌, append_assoc, sym, subst}
-use Rattle.text.proofs.Cuts.{cut_cut}
+use Rattle.fixed_vec.proofs.Cuts.{cut_cut}
 use Rattle.grammar.specs.Grammar.{Tree}
 use Rattle.grammar.specs.declared.Node.{Node}
 use Rattle.writer.specs.declared.rule_text.RuleText.{RuleText}
