@@ -30,28 +30,25 @@ next_some xs ys e h = subst (λ r. Next xs (Ok r) ys) e h
 -- a unit whose first token the lexer has passed already
 pub read_behind : (deep : ℕ) (l m : Lexer) (d : Draft) (xs : List Item) (r : Result (Unit {0}) TextFault) (q : Parser) → left l ≡ xs → text_of m ≡ text_of l → ReadUnit deep xs (record { lexer = m; draft = d }) r q → ReadUnit deep (left l) (record { lexer = l; draft = d }) r q
 read_behind deep l m d xs (Ok u) q e s rd = (
-  rd.0,
-  (λ K h.
-      ap (runs (length (text_of l)) (want K) d.words) e
-      ∙ subst (λ t. runs (length t) (want K) d.words xs ≡ runs (length t) (unit_done K rd.0) q.draft.words (left q.lexer)) s (rd.1 K h)),
-  rd.2,
-  rd.3 ∙ s,
+  (
+    rd.0.0,
+    (λ K h.
+        ap (runs (length (text_of l)) (want K) d.words) e
+        ∙ subst (λ t. runs (length t) (want K) d.words xs ≡ runs (length t) (unit_done K rd.0.0) q.draft.words (left q.lexer)) s (rd.0.1 K h)),
+    rd.0.2,
+  ),
+  rd.1 ∙ s,
 )
 read_behind deep l m d xs (Err f) q e s rd = (
   (λ K h. ap (runs (length (text_of l)) (want K) d.words) e ∙ subst (λ t. runs (length t) (want K) d.words xs ≡ refused f) s (rd.0 K h)),
   rd.1 ∙ s,
 )
 
--- a unit that is read without the lexer
-pub by_draft : (deep : ℕ) (l : Lexer) (d e : Draft) (xs : List Item) (r : Result (Unit {0}) TextFault) → UnitBy (length (text_of l)) deep xs d r (left l) e → ReadUnit deep xs (record { lexer = l; draft = d }) r (record { lexer = l; draft = e })
-by_draft deep l d e xs (Ok u) b = (b.0, b.1, b.2, refl)
-by_draft deep l d e xs (Err f) b = (b, refl)
-
 -- a leaf whose token the lexer has passed already
 pub leaf_behind : (deep : ℕ) (p : Parser) (m : Lexer) (e : Draft) (o : Option Placed) (x : Placed) (w : Word) (r : Result (Unit {0}) TextFault) → Next (left p.lexer) (Ok o) (left m) → o ≡ Some x → x.token ≡ word w → text_of m ≡ text_of p.lexer → ((n k : ℕ) (xs : List Item) → UnitBy n k (token x.place (word w) ∷ xs) p.draft r xs e) → ReadUnit deep (left p.lexer) p r (record { lexer = m; draft = e })
 leaf_behind deep p m e o x w r answer some is same reads =
     let first : left p.lexer ≡ token x.place (word w) ∷ left m = next_some (left p.lexer) (left m) some answer ∙ ap (λ t. token x.place t ∷ left m) is in
-    read_behind deep p.lexer m p.draft (token x.place (word w) ∷ left m) r (record { lexer = m; draft = e }) first same (by_draft deep m p.draft e _ r (reads (length (text_of m)) deep (left m)))
+    read_behind deep p.lexer m p.draft (token x.place (word w) ∷ left m) r (record { lexer = m; draft = e }) first same (reads (length (text_of m)) deep (left m), refl)
 
 -- a rule in parentheses
 pub paren_deep : (n p k deep : ℕ) (K : Context unit) (xs : List Item) → depth K + deep ≡ max_depth → deep ≡ 0 → runs n (want K) k (token p Open ∷ xs) ≡ refused (TooDeep p)

@@ -2,7 +2,7 @@
 -- reader.
 --   Grown d e t         a draft has grown by a tree
 --   SameText p q        two parsers read the same text
---   UnitBy              what reading a unit comes to, by drafts alone, in a text of any length and before any items
+--   UnitBy              what reading a unit comes to by the drafts alone, in a text of any length and before any items
 --   ReadUnit, ReadRule  what the functions for a unit and for a rule promise
 --   ended               what stands behind a whole rule: nothing, or a token that cannot
 use Rattle.std.specs.Prelude.{◌≡◌, ℕ, ◌+◌, List, ◌∷◌, ◌++◌, length, Some, None, Ok, Err, Option, Result}
@@ -42,11 +42,9 @@ abbrev pub UnitBy : ℕ → ℕ → List Item → Draft → Result (Unit {0}) Te
 UnitBy n deep xs d (Ok u) ys e = (t : Tree) × ((K : Context unit) → depth K + deep ≡ max_depth → runs n (want K) d.words xs ≡ runs n (unit_done K t) e.words ys) × Grown d e t
 UnitBy n deep xs d (Err f) ys e = (K : Context unit) → depth K + deep ≡ max_depth → runs n (want K) d.words xs ≡ refused f
 
--- A unit, in any context that leaves `deep` more levels: with the items xs ahead, the parser p becomes q, and the machine
--- comes from where a unit is wanted to where one stands; or to a refusal. Refused or not, q reads the text that p reads.
+-- A unit, likewise, that the parser p reads and so becomes q. Refused or not, q reads the text that p reads.
 abbrev pub ReadUnit : ℕ → List Item → Parser → Result (Unit {0}) TextFault → Parser → Type 0
-ReadUnit deep xs p (Ok u) q = (t : Tree) × ((K : Context unit) → depth K + deep ≡ max_depth → runs (bytes p) (want K) p.draft.words xs ≡ runs (bytes p) (unit_done K t) q.draft.words (left q.lexer)) × Grown p.draft q.draft t × SameText p q
-ReadUnit deep xs p (Err f) q = ((K : Context unit) → depth K + deep ≡ max_depth → runs (bytes p) (want K) p.draft.words xs ≡ refused f) × SameText p q
+ReadUnit deep xs p r q = UnitBy (bytes p) deep xs p.draft r (left q.lexer) q.draft × SameText p q
 
 -- a rule, likewise, with the token behind it
 abbrev pub ReadRule : ℕ → List Item → Parser → Result (Option Placed) TextFault → Parser → Type 0

@@ -61,13 +61,15 @@ in_parentheses-returns t c =
     let rd = c.in_ok-next.ensures.read in
     record {
       read = (
-        rd.0,
-        (λ K h.
-            paren_in _ _ _ c.args.deep c.in_ok-below.below K _ h c.in_ok-below.ensures.level c.args.self.now.draft.few
-            ∙ rd.1 (inside K) (inside_level c.args.deep c.in_ok-below.below K h c.in_ok-below.ensures.level)
-            ∙ ap (λ o. behind (length (text_of c.args.self.now.lexer)) (inside K) rd.0 c.rule.new.self.draft.words o (left c.rule.new.self.lexer)) c.in-Some.is
-            ∙ close_found _ _ rd.0 K c.in-Some.next _ c.in-Close.is (omega arith) c.rule.new.self.draft.few),
-        rd.2,
+        (
+          rd.0,
+          (λ K h.
+              paren_in _ _ _ c.args.deep c.in_ok-below.below K _ h c.in_ok-below.ensures.level c.args.self.now.draft.few
+              ∙ rd.1 (inside K) (inside_level c.args.deep c.in_ok-below.below K h c.in_ok-below.ensures.level)
+              ∙ ap (λ o. behind (length (text_of c.args.self.now.lexer)) (inside K) rd.0 c.rule.new.self.draft.words o (left c.rule.new.self.lexer)) c.in-Some.is
+              ∙ close_found _ _ rd.0 K c.in-Some.next _ c.in-Close.is (omega arith) c.rule.new.self.draft.few),
+          rd.2,
+        ),
         rd.3,
       );
     }
@@ -108,20 +110,22 @@ one_sided-returns-in_err-unit t c =
 pub one_sided-returns : goal.one_sided-returns
 one_sided-returns t c =
     let more = c.in_ok-count.ensures in
-    let rd = c.in_ok-unit.ensures.read in
+    let rd = c.in_ok-unit.ensures.read.0 in
     let counted : Counted c.args.self.now.draft c.count.new.self = record { same = more.same; words = more.counted } in
     let pushed : Pushed c.unit.new.self.draft c.push.new.self c.args.word 0 = record { pushed = c.push.ensures.pushed; words = c.push.ensures.words } in
     record {
       read = (
-        one c.args.word rd.0,
-        (λ K h.
-            one_in _ _ _ c.args.deep c.in_ok-below.below K c.args.word _ c.requires h c.in_ok-below.ensures.level (omega (arith, more.counted, c.count.new.self.few))
-            ∙ ap (λ k. runs (length (text_of c.args.self.now.lexer)) (want (under c.args.word K)) k (left c.args.self.now.lexer)) (sym more.counted)
-            ∙ rd.1 (under c.args.word K) (under_level c.args.deep c.in_ok-below.below c.args.word K h c.in_ok-below.ensures.level)
-            ∙ ap (λ S. runs (length (text_of c.args.self.now.lexer)) S c.unit.new.self.draft.words (left c.unit.new.self.lexer)) (under_done c.args.word K rd.0)
-            ∙ ap (λ k. runs (length (text_of c.args.self.now.lexer)) (unit_done K (one c.args.word rd.0)) k (left c.unit.new.self.lexer)) (sym c.push.ensures.words)),
-        grown_one counted rd.2 pushed,
-        rd.3,
+        (
+          one c.args.word rd.0,
+          (λ K h.
+              one_in _ _ _ c.args.deep c.in_ok-below.below K c.args.word _ c.requires h c.in_ok-below.ensures.level (omega (arith, more.counted, c.count.new.self.few))
+              ∙ ap (λ k. runs (length (text_of c.args.self.now.lexer)) (want (under c.args.word K)) k (left c.args.self.now.lexer)) (sym more.counted)
+              ∙ rd.1 (under c.args.word K) (under_level c.args.deep c.in_ok-below.below c.args.word K h c.in_ok-below.ensures.level)
+              ∙ ap (λ S. runs (length (text_of c.args.self.now.lexer)) S c.unit.new.self.draft.words (left c.unit.new.self.lexer)) (under_done c.args.word K rd.0)
+              ∙ ap (λ k. runs (length (text_of c.args.self.now.lexer)) (unit_done K (one c.args.word rd.0)) k (left c.unit.new.self.lexer)) (sym c.push.ensures.words)),
+          grown_one counted rd.2 pushed,
+        ),
+        c.in_ok-unit.ensures.read.1,
       );
     }
 
@@ -135,73 +139,73 @@ rule-returns-in_err-unit t c =
 
 pub rule-overflow_sub-operand : goal.rule-overflow_sub-operand
 rule-overflow_sub-operand t c =
-    let rd = c.in_ok-unit.ensures.read in
+    let rd = c.in_ok-unit.ensures.read.0 in
     omega (arith, size_some rd.0, rd.2.len, c.len-operand.ensures.value)
 
 pub rule-returns-in_err-next : goal.rule-returns-in_err-next
 rule-returns-in_err-next t c =
     let a = c.in_err-next.ensures.answer in
-    let rd = c.in_ok-unit.ensures.read in
+    let rd = c.in_ok-unit.ensures.read.0 in
     let first_unit = had_run _ c.args.deep _ _ _ _ _ rd.0 rd.1 a.1 in
     record {
       read =
           let p = err_from_is_err_and c.from_residual-in_err-next.result c.from_residual-in_err-next.ensures.1 in
-          rw (p.1, p.2) ((λ K h. first_unit K h ∙ at_bad _ _ (had rd.0 K) _ a.0), c.next.ensures.same_text ∙ rd.3);
+          rw (p.1, p.2) ((λ K h. first_unit K h ∙ at_bad _ _ (had rd.0 K) _ a.0), c.next.ensures.same_text ∙ c.in_ok-unit.ensures.read.1);
     }
 
 pub rule-returns-in_default : goal.rule-returns-in_default
 rule-returns-in_default t c =
-    let rd = c.in_ok-unit.ensures.read in
+    let rd = c.in_ok-unit.ensures.read.0 in
     let first_unit = had_run _ c.args.deep _ _ _ _ _ rd.0 rd.1 (next_none (left c.unit.new.self.lexer) (left c.next.new.self) c.in_default.is c.in_ok-next.ensures.answer) in
-    record { read = (rd.0, (λ K h. first_unit K h ∙ at_end _ _ (had rd.0 K)), rd.2, c.next.ensures.same_text ∙ rd.3) }
+    record { read = (rd.0, (λ K h. first_unit K h ∙ at_end _ _ (had rd.0 K)), rd.2, c.next.ensures.same_text ∙ c.in_ok-unit.ensures.read.1) }
 
 pub rule-returns-in_default-token : goal.rule-returns-in_default-token
 rule-returns-in_default-token t c =
-    let rd = c.in_ok-unit.ensures.read in
+    let rd = c.in_ok-unit.ensures.read.0 in
     let first_unit = had_run _ c.args.deep _ _ _ _ _ rd.0 rd.1 (next_some (left c.unit.new.self.lexer) (left c.next.new.self) c.in-Some.is c.in_ok-next.ensures.answer) in
-    record { read = (rd.0, (λ K h. first_unit K h ∙ alone_by_token _ _ rd.0 K c.in-Some.next _ c.in_default-token.not-Word), rd.2, c.next.ensures.same_text ∙ rd.3) }
+    record { read = (rd.0, (λ K h. first_unit K h ∙ alone_by_token _ _ rd.0 K c.in-Some.next _ c.in_default-token.not-Word), rd.2, c.next.ensures.same_text ∙ c.in_ok-unit.ensures.read.1) }
 
 pub rule-returns-in_default-operands_of : goal.rule-returns-in_default-operands_of
 rule-returns-in_default-operands_of t c =
-    let rd = c.in_ok-unit.ensures.read in
+    let rd = c.in_ok-unit.ensures.read.0 in
     let first_unit = had_run _ c.args.deep _ _ _ _ _ rd.0 rd.1 (next_some (left c.unit.new.self.lexer) (left c.next.new.self) c.in-Some.is c.in_ok-next.ensures.answer) in
     record {
-      read = (rd.0, (λ K h. first_unit K h ∙ alone_by_word _ _ rd.0 K c.in-Some.next c.in-Word.word _ c.in-Word.is (λ e. c.in_default-operands_of.not-Two (c.operands_of.ensures.value ∙ e))), rd.2, c.next.ensures.same_text ∙ rd.3);
+      read = (rd.0, (λ K h. first_unit K h ∙ alone_by_word _ _ rd.0 K c.in-Some.next c.in-Word.word _ c.in-Word.is (λ e. c.in_default-operands_of.not-Two (c.operands_of.ensures.value ∙ e))), rd.2, c.next.ensures.same_text ∙ c.in_ok-unit.ensures.read.1);
     }
 
 pub rule-returns-in_err-count : goal.rule-returns-in_err-count
 rule-returns-in_err-count t c =
-    let rd = c.in_ok-unit.ensures.read in
+    let rd = c.in_ok-unit.ensures.read.0 in
     let first_unit = had_run _ c.args.deep _ _ _ _ _ rd.0 rd.1 (next_some (left c.unit.new.self.lexer) (left c.next.new.self) c.in-Some.is c.in_ok-next.ensures.answer ∙ ap (λ x. token c.in-Some.next.place x ∷ left c.next.new.self) c.in-Word.is) in
     let two_sided : takes c.in-Word.word ≡ Two = sym c.operands_of.ensures.value ∙ c.in-Two.is in
     let many = c.in_err-count.ensures.counted in
     record {
       read =
           let p = err_from_is_err_and c.from_residual-in_err-count.result c.from_residual-in_err-count.ensures.1 in
-          rw (p.1, p.2, many.0) ((λ K h. first_unit K h ∙ two_many _ _ _ rd.0 K c.in-Word.word _ two_sided (omega arith) many.1), c.next.ensures.same_text ∙ rd.3);
+          rw (p.1, p.2, many.0) ((λ K h. first_unit K h ∙ two_many _ _ _ rd.0 K c.in-Word.word _ two_sided (omega arith) many.1), c.next.ensures.same_text ∙ c.in_ok-unit.ensures.read.1);
     }
 
 pub rule-returns-in_err-unit-2 : goal.rule-returns-in_err-unit-2
 rule-returns-in_err-unit-2 t c =
-    let rd = c.in_ok-unit.ensures.read in
+    let rd = c.in_ok-unit.ensures.read.0 in
     let first_unit = had_run _ c.args.deep _ _ _ _ _ rd.0 rd.1 (next_some (left c.unit.new.self.lexer) (left c.next.new.self) c.in-Some.is c.in_ok-next.ensures.answer ∙ ap (λ x. token c.in-Some.next.place x ∷ left c.next.new.self) c.in-Word.is) in
     let two_sided : takes c.in-Word.word ≡ Two = sym c.operands_of.ensures.value ∙ c.in-Two.is in
     let more = c.in_ok-count.ensures in
-    let second_unit = want_second _ c.args.deep _ _ c.count.new.self.words _ _ _ _ rd.0 c.in-Word.word first_unit two_sided (ap length (c.next.ensures.same_text ∙ rd.3)) more.counted c.count.new.self.few in
+    let second_unit = want_second _ c.args.deep _ _ c.count.new.self.words _ _ _ _ rd.0 c.in-Word.word first_unit two_sided (ap length (c.next.ensures.same_text ∙ c.in_ok-unit.ensures.read.1)) more.counted c.count.new.self.few in
     record {
       read =
           let p = err_from_is_err_and c.from_residual-in_err-unit-2.result c.from_residual-in_err-unit-2.ensures.1 in
-          rw (p.1, p.2) ((λ K h. second_unit K h ∙ c.in_err-unit-2.ensures.read.0 (second c.in-Word.word rd.0 K) (omega (arith, second_depth c.in-Word.word rd.0 K))), c.in_err-unit-2.ensures.read.1 ∙ c.next.ensures.same_text ∙ rd.3);
+          rw (p.1, p.2) ((λ K h. second_unit K h ∙ c.in_err-unit-2.ensures.read.0 (second c.in-Word.word rd.0 K) (omega (arith, second_depth c.in-Word.word rd.0 K))), c.in_err-unit-2.ensures.read.1 ∙ c.next.ensures.same_text ∙ c.in_ok-unit.ensures.read.1);
     }
 
 pub rule-returns : goal.rule-returns
 rule-returns t c =
-    let rd = c.in_ok-unit.ensures.read in
+    let rd = c.in_ok-unit.ensures.read.0 in
     let first_unit = had_run _ c.args.deep _ _ _ _ _ rd.0 rd.1 (next_some (left c.unit.new.self.lexer) (left c.next.new.self) c.in-Some.is c.in_ok-next.ensures.answer ∙ ap (λ x. token c.in-Some.next.place x ∷ left c.next.new.self) c.in-Word.is) in
     let two_sided : takes c.in-Word.word ≡ Two = sym c.operands_of.ensures.value ∙ c.in-Two.is in
     let more = c.in_ok-count.ensures in
-    let second_unit = want_second _ c.args.deep _ _ c.count.new.self.words _ _ _ _ rd.0 c.in-Word.word first_unit two_sided (ap length (c.next.ensures.same_text ∙ rd.3)) more.counted c.count.new.self.few in
-    let re = c.in_ok-unit-2.ensures.read in
+    let second_unit = want_second _ c.args.deep _ _ c.count.new.self.words _ _ _ _ rd.0 c.in-Word.word first_unit two_sided (ap length (c.next.ensures.same_text ∙ c.in_ok-unit.ensures.read.1)) more.counted c.count.new.self.few in
+    let re = c.in_ok-unit-2.ensures.read.0 in
     let counted : Counted c.unit.new.self.draft c.count.new.self = record { same = more.same; words = more.counted } in
     let pushed : Pushed c.unit-2.new.self.draft c.push.new.self c.in-Word.word (c.len-operand.result - 1) = record { pushed = c.push.ensures.pushed; words = c.push.ensures.words } in
     let tree : Tree = two c.in-Word.word rd.0 re.0 in
@@ -210,10 +214,10 @@ rule-returns t c =
           rule_by_next c.args.deep _ (left c.unit-2.new.self.lexer) c.args.self.now (record { lexer = c.next-2.new.self; draft = c.push.new.self }) tree c.next-2.result
           (λ K h.
           second_unit K h ∙ re.1 (second c.in-Word.word rd.0 K) (omega (arith, second_depth c.in-Word.word rd.0 K))
-          ∙ ap₂ (λ n k. runs n (unit_done (second c.in-Word.word rd.0 K) re.0) k (left c.unit-2.new.self.lexer)) (ap length (c.next.ensures.same_text ∙ rd.3)) (sym c.push.ensures.words)
+          ∙ ap₂ (λ n k. runs n (unit_done (second c.in-Word.word rd.0 K) re.0) k (left c.unit-2.new.self.lexer)) (ap length (c.next.ensures.same_text ∙ c.in_ok-unit.ensures.read.1)) (sym c.push.ensures.words)
           ∙ ap (λ S. runs (length (text_of c.args.self.now.lexer)) S c.push.new.self.words (left c.unit-2.new.self.lexer)) (second_done c.in-Word.word rd.0 K re.0))
           (grown_two rd.2 counted re.2 pushed (ap (λ n. n - 1) c.len-operand.ensures.value))
-          (c.next-2.ensures.same_text ∙ re.3 ∙ c.next.ensures.same_text ∙ rd.3)
+          (c.next-2.ensures.same_text ∙ c.in_ok-unit-2.ensures.read.1 ∙ c.next.ensures.same_text ∙ c.in_ok-unit.ensures.read.1)
           c.next-2.ensures.answer;
     }
 
