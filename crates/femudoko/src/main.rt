@@ -1,7 +1,8 @@
 // The program: a rule comes in on standard input, and its line goes out on standard output.
 #![tactic(auto)]
 
-ghost use Rattle.std.specs.Prelude.{◌≤◌, IfOk, length};
+ghost use Rattle.std.specs.Prelude.{◌≤◌, ◌+◌, IfOk, length};
+ghost use Rattle.listing.specs.Input.{max_input};
 
 use listing::{MAX_INPUT, MAX_LINE, answer};
 use std::io;
@@ -13,7 +14,7 @@ const MAX_READ: usize = MAX_INPUT + 1;
 // What is looked at of standard input. Memory for it is taken once, with a byte to spare: a vector that is full would grow before it
 // meets the end. No clause of the library says that `take` bounds what comes from standard input, so the cut shows it.
 fn read_input(rt: &HostRuntime) -> io::Result<Vec<u8>>
-    ensures within { IfOk result (λ input. length input.items ≤ 65537) }
+    ensures within { IfOk result (λ input. length input.items ≤ max_input + 1) }
 {
     let mut input = Vec::with_capacity(rt.alloc(), MAX_READ + 1)?;
     // No `From` leads from a `usize` to a `u64`.

@@ -37,8 +37,8 @@ impl From<InputFault> for Refusal {
 // The longest line that answers an input, its byte 10 included.
 pub const MAX_LINE: usize = 542;
 
-// Room for the line of any refusal: two numbers of at most five and twenty digits, and three bytes more. A line of `MAX_LINE` bytes would
-// be passed on from piece to piece.
+// More than the line of any refusal has: two numbers of at most five and twenty digits, and three bytes. A `Line` moves as a whole with
+// each piece that is added, so it is kept short.
 const MAX_REFUSAL: usize = 64;
 
 // Writes a refusal's line.
